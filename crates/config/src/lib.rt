@@ -1,9 +1,8 @@
-// Owns the register words: from the four words of document 01 to a configuration, or to one of the numbers 1, 2 and 3.
-ghost use Rattle.config.specs.Words.{reservedOf, cfgReserved};
+// Owns the register words: from document 01's four words to a configuration, or to one of the numbers 1, 2 and 3.
 ghost use mathlib.Core.Path.{_≡_};
-ghost use Prim.Native.Nat.{_≤_, _<_};
-
-
+ghost use Prim.Native.Nat.{_<_, _^_, max};
+ghost use Rattle.config.specs.Words.{bits, fieldOf, anySet, cfgReserved, rowReserved, refReserved, timReserved, reservedMap, reservedAll};
+ghost use Rattle.config.specs.Setting.{offeredOf, geometryOf, configOf, tooShort, checkedOf, refusedOf, settingOf, mapNumberOf};
 
 // The device's shape: how many bits number its columns, banks and rows.
 pub struct Geometry {
@@ -12,7 +11,7 @@ pub struct Geometry {
     pub rows: u8,
 }
 
-// A configuration. The distances are in slots; rr is the refresh interval; access and refresh are document 01's spans A and F.
+// A configuration. Distances are in slots; rr is the refresh interval; access and refresh are document 01's spans A and F.
 pub struct Config {
     pub geometry: Geometry,
     pub latency: u8,
@@ -28,27 +27,245 @@ pub struct Config {
     pub refresh: u8,
 }
 
-// A number of document 01's table, and the configuration where it is 0; all zeros otherwise.
+// A number of document 01's table and, where it is 0, the configuration; all zeros where it is not.
 pub struct Setting {
     pub number: u8,
     pub config: Config,
 }
 
-// Is a bit set that no field of CFG names?
-fn cfg_reserved(w: u32) -> bool
-    ensures { λ r. ⌜ r ≡ reservedOf cfgReserved w ⌝ }
+// Two to the power n.
+pub fn power(n: u32) -> u32
+    requires { ⌜ n < 32 ⌝ }
+    ensures { λ r. ⌜ r ≡ 2 ^ n ⌝ }
 {
-    if w / 32768 % 131072 != 0 {
+    1 << n
+}
+
+// The number in `width` bits of a word, from bit `low` on.
+fn field(word: u32, low: u32, width: u32) -> u32
+    requires { ⌜ (low < 32) × (width < 32) ⌝ }
+    ensures { λ r. ⌜ r ≡ fieldOf word (bits low width) ⌝ }
+{
+    word / power(low) % power(width)
+}
+
+// Is a bit of CFG set that no field names?
+fn cfg_reserved(w: u32) -> bool
+    ensures { λ r. ⌜ r ≡ anySet cfgReserved w ⌝ }
+{
+    if field(w, 15, 17) != 0 {
         return true;
     }
-    if w / 4096 % 4 != 0 {
+    if field(w, 12, 2) != 0 {
         return true;
     }
-    if w / 128 % 4 != 0 {
+    if field(w, 7, 2) != 0 {
         return true;
     }
-    if w / 8 % 2 != 0 {
+    if field(w, 3, 1) != 0 {
         return true;
     }
     false
+}
+
+fn row_reserved(w: u32) -> bool
+    ensures { λ r. ⌜ r ≡ anySet rowReserved w ⌝ }
+{
+    if field(w, 3, 29) != 0 {
+        return true;
+    }
+    false
+}
+
+fn ref_reserved(w: u32) -> bool
+    ensures { λ r. ⌜ r ≡ anySet refReserved w ⌝ }
+{
+    if field(w, 13, 19) != 0 {
+        return true;
+    }
+    false
+}
+
+fn tim_reserved(w: u32) -> bool
+    ensures { λ r. ⌜ r ≡ anySet timReserved w ⌝ }
+{
+    if field(w, 23, 1) != 0 {
+        return true;
+    }
+    if field(w, 19, 1) != 0 {
+        return true;
+    }
+    if field(w, 7, 1) != 0 {
+        return true;
+    }
+    if field(w, 0, 4) != 0 {
+        return true;
+    }
+    false
+}
+
+fn map_reserved(cfg: u32, row: u32) -> bool
+    ensures { λ r. ⌜ r ≡ reservedMap cfg row ⌝ }
+{
+    if cfg_reserved(cfg) {
+        return true;
+    }
+    row_reserved(row)
+}
+
+fn all_reserved(cfg: u32, row: u32, refr: u32, tim: u32) -> bool
+    ensures { λ r. ⌜ r ≡ reservedAll cfg row refr tim ⌝ }
+{
+    if map_reserved(cfg, row) {
+        return true;
+    }
+    if ref_reserved(refr) {
+        return true;
+    }
+    tim_reserved(tim)
+}
+
+// Does every field of CFG and ROW hold a value that is offered?
+fn offered(cfg: u32, row: u32) -> bool
+    ensures { λ r. ⌜ r ≡ offeredOf cfg row ⌝ }
+{
+    if field(cfg, 14, 1) != 1 {
+        return false;
+    }
+    let latency = field(cfg, 9, 3);
+    if latency < 2 {
+        return false;
+    }
+    if 3 < latency {
+        return false;
+    }
+    if 2 < field(cfg, 4, 3) {
+        return false;
+    }
+    if 3 < field(cfg, 0, 3) {
+        return false;
+    }
+    if 4 < field(row, 0, 3) {
+        return false;
+    }
+    true
+}
+
+// The geometry that CFG and ROW describe.
+pub fn shape(cfg: u32, row: u32) -> Geometry
+    ensures { λ r. ⌜ r ≡ geometryOf cfg row ⌝ }
+{
+    Geometry {
+        columns: 8 + field(cfg, 0, 3) as u8,
+        banks: field(cfg, 4, 3) as u8,
+        rows: 9 + field(row, 0, 3) as u8,
+    }
+}
+
+fn larger(a: u8, b: u8) -> u8
+    ensures { λ r. ⌜ r ≡ max a b ⌝ }
+{
+    if a < b {
+        return b;
+    }
+    a
+}
+
+// The configuration that the words describe, whether or not it is accepted.
+fn described(cfg: u32, row: u32, refr: u32, tim: u32) -> Config
+    ensures { λ r. ⌜ r ≡ configOf cfg row refr tim ⌝ }
+{
+    let geometry = shape(cfg, row);
+    let latency = field(cfg, 9, 3) as u8;
+    let rfc = field(tim, 27, 5) as u8 + 1;
+    let rp = field(tim, 24, 3) as u8 + 1;
+    let rcd = field(tim, 20, 3) as u8 + 1;
+    let wr = field(tim, 16, 3) as u8 + 1;
+    let ras = field(tim, 12, 4) as u8 + 1;
+    let rc = field(tim, 8, 4) as u8 + 1;
+    let rrd = field(tim, 4, 3) as u8 + 1;
+    let m = larger(ras, wr);
+    Config {
+        geometry,
+        latency,
+        rfc,
+        rp,
+        rcd,
+        wr,
+        ras,
+        rc,
+        rrd,
+        rr: field(refr, 0, 13) as u16,
+        access: m + rp + rc + rrd + rcd + latency + 2,
+        refresh: m + rp + rfc,
+    }
+}
+
+// A refusal with its number: no configuration.
+fn refused(number: u8) -> Setting
+    ensures { λ r. ⌜ r ≡ refusedOf number ⌝ }
+{
+    let geometry = Geometry {
+        columns: 0,
+        banks: 0,
+        rows: 0,
+    };
+    let config = Config {
+        geometry,
+        latency: 0,
+        rfc: 0,
+        rp: 0,
+        rcd: 0,
+        wr: 0,
+        ras: 0,
+        rc: 0,
+        rrd: 0,
+        rr: 0,
+        access: 0,
+        refresh: 0,
+    };
+    Setting { number, config }
+}
+
+// Is the interval rr too short for one access and six refreshes?
+fn too_short(rr: u16, access: u8, refresh: u8) -> bool
+    ensures { λ r. ⌜ r ≡ tooShort rr access refresh ⌝ }
+{
+    (rr as u32) < (access as u32) + 6 * (refresh as u32)
+}
+
+// Number 3 where the interval is too short.
+fn checked(config: Config) -> Setting
+    ensures { λ r. ⌜ r ≡ checkedOf config ⌝ }
+{
+    if too_short(config.rr, config.access, config.refresh) {
+        return refused(3);
+    }
+    Setting { number: 0, config }
+}
+
+// The configuration that four register words give, or the number that refuses them.
+pub fn configure(cfg: u32, row: u32, refr: u32, tim: u32) -> Setting
+    ensures { λ r. ⌜ r ≡ settingOf cfg row refr tim ⌝ }
+{
+    if all_reserved(cfg, row, refr, tim) {
+        return refused(1);
+    }
+    if offered(cfg, row) {
+        return checked(described(cfg, row, refr, tim));
+    }
+    refused(2)
+}
+
+// The number that the standalone map's two words give.
+pub fn map_number(cfg: u32, row: u32) -> u8
+    ensures { λ r. ⌜ r ≡ mapNumberOf cfg row ⌝ }
+{
+    if map_reserved(cfg, row) {
+        return 1;
+    }
+    if offered(cfg, row) {
+        return 0;
+    }
+    2
 }

@@ -1,0 +1,2 @@
+-- Laws of the address map that callers use in place of its text.
+pub mod Laws

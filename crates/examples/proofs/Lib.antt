@@ -1,0 +1,2 @@
+-- The claim about the table.
+pub mod Claim

@@ -1,0 +1,2 @@
+-- Document 01, "Marked examples".
+pub mod Table
