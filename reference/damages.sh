@@ -1,0 +1,109 @@
+#!/bin/sh
+# damages.sh: builds every damage of src/damage.h and wants each one found,
+#   by an example that it answers with other lines, or
+#   by a claim that `check` finds broken on a script that the damaged build wrote for itself.
+# The table names the first of each. Its last column says which of the sound program's scripts the
+# damaged build answers with other lines; that is how another program would be compared with this one.
+set -eu
+cd "$(dirname "$0")"
+: "${CC:=gcc}" "${CFLAGS:=-std=c99}"
+work=build/damages
+damaged=$work/reference
+seeds='3 6 8 12'
+calls=60000
+mkdir -p $work
+
+# Only these three know of damages; the rest is linked as it is.
+sources='src/words.c src/legality.c src/machine.c'
+objects='build/main.o build/play.o build/script.o build/sdram.o build/memory.o build/check.o
+    build/generate.o'
+
+wrong() {
+    echo "WRONG: $*" >&2
+    exit 1
+}
+
+# build NAME [FLAG]
+build() {
+    # shellcheck disable=SC2086
+    $CC $CFLAGS -O0 -DDAMAGE="$1" ${2:-} -o $damaged $sources $objects
+}
+
+# differs_on FILE: FILE.script is not answered with FILE.expected.
+differs_on() {
+    ! $damaged run <"$1.script" 2>/dev/null | cmp -s - "$1.expected"
+}
+
+find_example() {
+    for script in examples/E?.script examples/E??.script examples/[a-z]*.script; do
+        example=${script%.script}
+        if [ $example != examples/last-number-8 ] && differs_on $example; then
+            echo "${example#examples/}"
+            return
+        fi
+    done
+}
+
+find_claim() {
+    for seed in $seeds; do
+        status=0
+        $damaged script $seed $calls | $damaged check 2>$work/message >/dev/null || status=$?
+        case $status in
+        0) ;;
+        1)
+            sed 's/^claim failed: line [0-9]*, slot [0-9]*: //' $work/message
+            return
+            ;;
+        *) wrong "$1: check ends with $status on seed $seed" ;;
+        esac
+    done
+}
+
+find_script() {
+    for seed in $seeds; do
+        if differs_on $work/$seed; then
+            echo "$seed"
+            return
+        fi
+    done
+}
+
+for seed in $seeds; do
+    ./reference script $seed $calls >$work/$seed.script
+    ./reference run <$work/$seed.script >$work/$seed.expected
+done
+
+# The sound build is not found, nor is the one that differs only in its last request number.
+build SOUND
+[ -z "$(find_example)$(find_claim SOUND)$(find_script)" ] || wrong "the sound build is found"
+build SOUND -DLAST_NUMBER=8
+if differs_on examples/last-number-8; then wrong "example last-number-8"; fi
+
+count=0
+found=0
+row='%-27s %-23s %-65s %s\n'
+# shellcheck disable=SC2059
+printf "$row" 'damage' 'first example' 'first claim' 'script'
+for name in $(sed -n '/^enum damage/,/^}/s/^    \([A-Z][A-Z0-9_]*\),\{0,1\}.*/\1/p' src/damage.h); do
+    case $name in
+    SOUND) continue ;;
+    USED_UP_BEFORE_FULL)
+        build $name -DLAST_NUMBER=8
+        example=$(if differs_on examples/last-number-8; then echo last-number-8; fi)
+        claim=
+        script=
+        ;;
+    *)
+        build "$name"
+        example=$(find_example)
+        claim=$(find_claim "$name")
+        script=$(find_script)
+        ;;
+    esac
+    # shellcheck disable=SC2059
+    printf "$row" "$name" "${example:--}" "${claim:--}" "${script:--}"
+    count=$((count + 1))
+    if [ -n "$example$claim" ]; then found=$((found + 1)); else echo "NOT FOUND: $name"; fi
+done
+echo "damages: $count built, $found found"
+[ $found = $count ]

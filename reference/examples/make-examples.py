@@ -1,0 +1,455 @@
+#!/usr/bin/env python3
+"""Writes the example scripts and their expected lines into this folder.
+
+Every figure below was taken from document 01 or worked out from its rules by hand; this program only
+writes out the stretches of NOP between them. It knows nothing of the reference program but the first
+contents of a cell, which scripts for `check` have to go by (README.md).
+"""
+
+import os
+
+HERE = os.path.dirname(os.path.abspath(__file__))
+
+E1_WORDS = "0x4400 0 27 0"                 # document 01, E1
+E4_WORDS = "0x4620 4 136 0x42215810"       # document 01, E4
+
+
+def first_contents(bank, row, column):
+    return ((((bank << 24 | row << 11 | column) + 1) * 2654435769) % 2**32) >> 16
+
+
+def store(name, script, expected):
+    for ending, lines in ((".script", script), (".expected", expected)):
+        with open(os.path.join(HERE, name + ending), "wb") as file:
+            file.write(b"".join(line if isinstance(line, bytes) else line.encode() + b"\n" for line in lines))
+
+
+def dialogue(name, pairs):
+    """A script given as pairs of a line and its answer."""
+    store(name, [line for line, _ in pairs], [answer for _, answer in pairs if answer is not None])
+
+
+class Run:
+    """A run given by the slots in which something happens; every other slot is NOP without a report."""
+
+    def __init__(self, words):
+        self.words = words
+        self.before = {}    # slot: pairs of a call and its answer, handed in before that slot
+        self.command = {}   # slot: command
+        self.report = {}    # slot: report
+        self.bus = {}       # slot: halfword on the bus
+        self.accepted = 0
+
+    def call(self, slot, line, answer):
+        self.before.setdefault(slot, []).append((line, answer))
+
+    def read(self, slot, address):
+        self.accepted += 1
+        self.call(slot, "read %s" % address, "read 0 %d" % self.accepted)
+
+    def write(self, slot, address, halfword):
+        self.accepted += 1
+        self.call(slot, "write %s %d" % (address, halfword), "write 0 %d" % self.accepted)
+
+    def backlog_after(self, slot, backlog):
+        self.call(slot + 1, "backlog", "backlog 0 %d" % backlog)
+
+    def at(self, slot, command):
+        self.command[slot] = command
+
+    def written(self, slot, number, bank, column, halfword):
+        self.at(slot, "WRT %d %d %d" % (bank, column, halfword))
+        self.report[slot] = "write %d" % number
+
+    def data(self, slot, number, halfword):
+        self.bus[slot] = halfword
+        self.report[slot] = "read %d %d" % (number, halfword)
+
+    def refresh(self, deac, refr):
+        self.at(deac, "DEAC")
+        self.at(refr, "REFR")
+
+    def store(self, name, last):
+        pairs = [("config " + self.words, "config 0")]
+        for slot in range(1, last + 1):
+            pairs += self.before.get(slot, [])
+            # Where the bus carries no data it carries something else in every slot.
+            bus = self.bus.get(slot, slot * 7919 % 65536)
+            pairs.append(("slot %d" % bus, "slot 0 %s %s" % (self.command.get(slot, "NOP"), self.report.get(slot, "-"))))
+        pairs += self.before.get(last + 1, [])
+        dialogue(name, pairs)
+
+
+def e1_machine():
+    """Document 01, E5: the start of E1's machine. The first service slot is 228."""
+    run = Run(E1_WORDS)
+    run.at(217, "DEAC")
+    for slot in range(218, 225 + 1):
+        run.at(slot, "REFR")
+    run.at(226, "MRS 32")
+    return run
+
+
+E4_FIRST = 1166
+
+
+def e4_machine():
+    """8 x 136 = 1088 slots NOP; DEAC; tRP 3 to the first REFR; tRFC 9 to the next and to MRS; one NOP."""
+    run = Run(E4_WORDS)
+    run.at(1089, "DEAC")
+    for slot in (1092, 1101, 1110, 1119, 1128, 1137, 1146, 1155):
+        run.at(slot, "REFR")
+    run.at(1164, "MRS 48")
+    return run
+
+
+def e1_to_e4():
+    dialogue("E1", [("config " + E1_WORDS, "config 0")])
+    dialogue("E2", [("config 0x4400 0 26 0", "config 3")])
+    dialogue("E3", [("config 0x4600 0 397 0xFF77FF70", "config 0"),
+                    ("config 0x4600 0 396 0xFF77FF70", "config 3")])
+    dialogue("E4", [("config 0x4620 4 136 0x42215810", "config 0"),
+                    ("config 0x4620 4 135 0x42215810", "config 3")])
+
+
+def e5_begin():
+    run = e1_machine()
+    run.write(1, "0", 4711)
+    run.read(100, "0")
+    run.at(228, "ACT 0 0")
+    run.written(229, 1, 0, 0, 4711)
+    run.at(230, "READ 0 0")
+    run.data(232, 2, 4711)
+    return run
+
+
+def e5():
+    run = e5_begin()
+    run.read(233, "2")                  # waits for the machine, which is free at 234
+    run.at(234, "READ 0 1")
+    run.data(236, 3, first_contents(0, 0, 1))
+    run.store("E5", 240)
+
+
+def e6():
+    run = e5_begin()
+    run.backlog_after(227, 0)
+    run.backlog_after(253, 0)
+    run.backlog_after(254, 1)
+    run.backlog_after(334, 3)
+    run.backlog_after(335, 4)
+    run.refresh(335, 336)
+    run.backlog_after(336, 3)
+    run.refresh(337, 338)
+    run.refresh(339, 340)
+    run.refresh(341, 342)
+    run.backlog_after(341, 1)
+    run.backlog_after(342, 0)
+    run.backlog_after(361, 0)
+    run.refresh(362, 363)
+    run.backlog_after(362, 1)
+    run.backlog_after(363, 0)
+    run.store("E6", 370)
+
+
+def e7():
+    run, s = e4_machine(), E4_FIRST
+    run.write(1, "0", 11)
+    run.write(1, "0x800", 22)
+    run.at(s, "ACT 0 0")
+    run.written(s + 3, 1, 0, 0, 11)
+    run.at(s + 6, "PRE 0")
+    run.at(s + 9, "ACT 0 1")
+    run.written(s + 12, 2, 0, 0, 22)
+    run.store("E7", s + 20)
+
+
+def e8():
+    run, s = e4_machine(), E4_FIRST
+    run.write(1, "0", 11)
+    run.write(1, "0x200", 22)
+    run.at(s, "ACT 0 0")
+    run.written(s + 3, 1, 0, 0, 11)
+    run.at(s + 4, "ACT 1 0")
+    run.written(s + 7, 2, 1, 0, 22)
+    run.store("E8", s + 20)
+
+
+def e9():
+    """Ten slots after the first service slot, so that s is not the slot after the start."""
+    run, s = e4_machine(), E4_FIRST + 10
+    run.read(s, "0")
+    run.at(s, "ACT 0 0")
+    run.at(s + 3, "READ 0 0")
+    run.data(s + 6, 1, first_contents(0, 0, 0))
+    run.read(s + 7, "2")                # waits for the machine, which is free at s + 8
+    run.at(s + 8, "READ 0 1")
+    run.data(s + 11, 2, first_contents(0, 0, 1))
+    run.store("E9", s + 20)
+
+
+def e10():
+    """After the read of 0x800, free at s + 8: PRE at once, ACT tRP later, WRT tRCD later, READ next."""
+    run, s = e4_machine(), E4_FIRST
+    run.write(1, "0", 44)
+    run.read(1, "0")
+    run.read(1, "0x800")
+    run.at(s, "ACT 0 1")
+    run.at(s + 3, "READ 0 0")
+    run.data(s + 6, 3, first_contents(0, 1, 0))
+    run.at(s + 8, "PRE 0")
+    run.at(s + 11, "ACT 0 0")
+    run.written(s + 14, 1, 0, 0, 44)
+    run.at(s + 15, "READ 0 0")
+    run.data(s + 18, 2, 44)
+    run.store("E10", s + 30)
+
+
+def e11():
+    run, s = e4_machine(), E4_FIRST
+    run.write(1, "0", 55)
+    run.read(1, "0x7FE")
+    run.at(s, "ACT 0 0")
+    run.written(s + 3, 1, 0, 0, 55)
+    run.at(s + 4, "ACT 3 0")
+    run.at(s + 7, "READ 3 255")
+    run.data(s + 10, 2, first_contents(3, 0, 255))
+    run.store("E11", s + 20)
+
+
+def e12():
+    cells = (("0x200", "1 0 0"), ("0x7FE", "3 0 255"), ("0x800", "0 1 0"), ("0xFFFFFE", "3 8191 255"))
+    pairs = [("cell 0x4620 4 " + address, "cell 0 " + cell) for address, cell in cells]
+    pairs += [("cell 0x4620 4 0x1000000", "cell 5 0 0 0"), ("cell 0x4620 4 0x1000001", "cell 4 0 0 0")]
+    pairs += [("address 0x4620 4 " + cell, "address 0 %d" % int(address, 16)) for address, cell in cells]
+    pairs += [("config " + E4_WORDS, "config 0"), ("read 0xFFFFFE", "read 0 1"),
+              ("read 0x1000000", "read 5 0"), ("write 0x1000001 0", "write 4 0")]
+    dialogue("E12", pairs)
+
+
+def endless_reads(run, first, last):
+    """E1's machine reads address 0 without end: ACT in slot `first`, READ in the next, and from there
+    READ every 4 slots up to slot `last` (data 2 later, 1 slot more, then free). One further read is
+    handed in after each report, so that one always waits; the last two reports bring none."""
+    reads = [first + 1] + list(range(first + 5, last + 1, 4))
+    assert reads[-1] == last
+    run.at(first, "ACT 0 0")
+    handed_in = [first, first] + [slot + 3 for slot in reads[:-2]]
+    for slot in handed_in:
+        run.read(slot, "0")
+    for number, slot in enumerate(reads, 1):
+        run.at(slot, "READ 0 0")
+        run.data(slot + 2, number, first_contents(0, 0, 0))
+
+
+def must_run():
+    """Rule 1. Expiries of E1's machine: 254, 281, ... each 27, the 12th in 551. Choices come every 4
+    slots, 549 and 553. At 553 the backlog is 12: five refreshes bring it to 7, and at 563 the run ends."""
+    run = e1_machine()
+    endless_reads(run, 228, 549)
+    run.backlog_after(550, 11)
+    run.backlog_after(551, 12)
+    for deac in (553, 555, 557, 559, 561):
+        run.refresh(deac, deac + 1)
+    run.backlog_after(562, 7)
+    run.read(550, "0")                  # waits through the Must run
+    run.at(563, "ACT 0 0")
+    run.at(564, "READ 0 0")
+    run.data(566, 82, first_contents(0, 0, 0))
+    run.store("must-run", 567)
+
+
+def must_only_at_a_choice():
+    """Rule 1. The 11th expiry is in 524. At the choice of slot 550 no request waits and the backlog is
+    11: rule 3. The 12th expiry is in 551, in whose REFR the backlog falls again. So the choice of slot
+    552 sees 11, and no Must run has started: the read is served."""
+    run = e1_machine()
+    endless_reads(run, 229, 546)
+    run.refresh(550, 551)
+    run.backlog_after(550, 11)
+    run.backlog_after(551, 11)
+    run.read(551, "0")
+    run.at(552, "ACT 0 0")
+    run.at(553, "READ 0 0")
+    run.data(555, 81, first_contents(0, 0, 0))
+    run.store("must-only-at-a-choice", 556)
+
+
+def need_with_blocked_read():
+    """Rules 3 and 4. The 8th expiry is in 443. At the choice of slot 445 a write and a read of its block
+    wait: the read is blocked, so rule 3 comes before rule 4. Then the backlog is 7 and the write goes."""
+    run = e1_machine()
+    endless_reads(run, 228, 441)
+    run.write(440, "0", 66)
+    run.read(440, "0")
+    run.backlog_after(444, 8)
+    run.refresh(445, 446)
+    run.backlog_after(446, 7)
+    run.at(447, "ACT 0 0")
+    run.written(448, 55, 0, 0, 66)
+    run.at(449, "READ 0 0")
+    run.data(451, 56, 66)
+    run.store("need-with-blocked-read", 452)
+
+
+def write_before_release():
+    """Rules 4 and 5. The 4th expiry is in 335; a write waiting then goes before the refresh."""
+    run = e5_begin()
+    run.write(335, "4", 77)
+    run.written(335, 3, 0, 2, 77)
+    run.refresh(336, 337)
+    run.backlog_after(337, 3)
+    run.refresh(338, 339)
+    run.store("write-before-release", 339)
+
+
+def oldest_read_first():
+    """Rule 2. Two unblocked reads of one bank, the second free to go at s + 8."""
+    run, s = e4_machine(), E4_FIRST
+    run.read(1, "0x800")
+    run.read(1, "0")
+    run.at(s, "ACT 0 1")
+    run.at(s + 3, "READ 0 0")
+    run.data(s + 6, 1, first_contents(0, 1, 0))
+    run.at(s + 8, "PRE 0")
+    run.at(s + 11, "ACT 0 0")
+    run.at(s + 14, "READ 0 0")
+    run.data(s + 17, 2, first_contents(0, 0, 0))
+    run.store("oldest-read-first", s + 20)
+
+
+def tight_distances():
+    """R7 and R13 decide here: tWR 8, tRRD 8, all others 1; 2 banks, CL 2. M 8, A 23, F 10: least RR 83.
+    664 slots NOP, DEAC 665, REFR 666 to 673, MRS 674, NOP 675. Expiries 758, 841, 924, 1007."""
+    run = Run("0x4410 0 83 0x00070070")
+    run.call(1, "config 0x4410 0 82 0x00070070", "config 3")
+    run.call(1, "config 0x4410 0 83 0x00070070", "config 0")
+    run.at(665, "DEAC")
+    for slot in range(666, 673 + 1):
+        run.at(slot, "REFR")
+    run.at(674, "MRS 32")
+    run.write(1, "0", 88)               # bank 0, row 0
+    run.write(1, "0x1000", 89)          # bank 0, row 4
+    run.write(1, "0xA00", 90)           # bank 1, row 2
+    run.at(676, "ACT 0 0")
+    run.written(677, 1, 0, 0, 88)
+    run.at(685, "PRE 0")                # tWR
+    run.at(686, "ACT 0 4")
+    run.written(687, 2, 0, 0, 89)
+    run.at(694, "ACT 1 2")              # tRRD
+    run.written(695, 3, 1, 0, 90)
+    # Both banks are open, so backlog 1 to 3 waits. A write to bank 0, then a read of bank 1; at 1008
+    # the backlog is 4 and the machine free, but DEAC has to wait for bank 0's tWR.
+    run.write(1003, "0x1002", 91)
+    run.written(1003, 4, 0, 1, 91)
+    run.read(1004, "0xA00")
+    run.at(1004, "READ 1 0")
+    run.data(1006, 5, 90)
+    run.refresh(1011, 1012)
+    run.refresh(1013, 1014)
+    run.store("tight-distances", 1014)
+
+
+def numbers():
+    pairs = [
+        # The blank machine, before any other number.
+        ("read 1", "read 8 0"), ("write 0xFFFFFFFF 1", "write 8 0"), ("slot 5", "slot 8 NOP -"),
+        ("backlog", "backlog 8 0"),
+        # 1: the lowest and highest unnamed bits of each word, and each gap in CFG and TIM.
+        ("config 0x4408 0 27 0", "config 1"), ("config 0x4480 0 27 0", "config 1"),
+        ("config 0x4500 0 27 0", "config 1"), ("config 0x5400 0 27 0", "config 1"),
+        ("config 0x6400 0 27 0", "config 1"), ("config 0xC400 0 27 0", "config 1"),
+        ("config 0x80004400 0 27 0", "config 1"), ("config 0x4400 8 27 0", "config 1"),
+        ("config 0x4400 0x80000000 27 0", "config 1"), ("config 0x4400 0 0x201B 0", "config 1"),
+        ("config 0x4400 0 0x8000001B 0", "config 1"), ("config 0x4400 0 8191 1", "config 1"),
+        ("config 0x4400 0 8191 8", "config 1"), ("config 0x4400 0 8191 0x80", "config 1"),
+        ("config 0x4400 0 8191 0x80000", "config 1"), ("config 0x4400 0 8191 0x800000", "config 1"),
+        # 2: each field; and 1 comes before it, from any word.
+        ("config 0x0400 0 27 0", "config 2"), ("config 0x4000 0 27 0", "config 2"),
+        ("config 0x4200 0 27 0", "config 2"), ("config 0x4800 0 27 0", "config 2"),
+        ("config 0x4E00 0 27 0", "config 2"), ("config 0x4430 0 27 0", "config 2"),
+        ("config 0x4470 0 27 0", "config 2"), ("config 0x4404 0 27 0", "config 2"),
+        ("config 0x4407 0 27 0", "config 2"), ("config 0x4400 5 27 0", "config 2"),
+        ("config 0x4400 7 27 0", "config 2"), ("config 0 0 0 0", "config 2"),
+        ("config 0 0 0 8", "config 1"), ("config 0 0 0x2000 0", "config 1"),
+        ("config 0x4400 13 27 0", "config 1"), ("config 0xFFFFFFFF 0 27 0", "config 1"),
+        # 3: and 2 comes before it.
+        ("config 0x4400 0 0 0", "config 3"), ("config 0x4400 5 0 0", "config 2"),
+        ("slot 5", "slot 8 NOP -"),
+        # All fields offered.
+        ("config 0x4623 4 397 0xFF77FF70", "config 0"), ("config 0x4623 4 8191 0xFF77FF70", "config 0"),
+        ("read 134217726", "read 0 1"), ("read 134217728", "read 5 0"), ("read 134217729", "read 4 0"),
+        # E1's machine: 4 before 5 before 6, and refused requests take no number.
+        ("config " + E1_WORDS, "config 0"),
+        ("write 1 0", "write 4 0"), ("write 262144 0", "write 5 0"), ("write 262145 0", "write 4 0"),
+        ("write 262142 0", "write 0 1"), ("read 4294967294", "read 5 0"), ("read 4294967295", "read 4 0"),
+    ]
+    pairs += [("read 0", "read 0 %d" % number) for number in range(2, 8 + 1)]
+    pairs += [("read 0", "read 6 0"), ("write 0 0", "write 6 0"), ("read 1", "read 4 0"),
+              ("read 262144", "read 5 0"), ("slot 5", "slot 0 NOP -"), ("backlog", "backlog 0 0"),
+              # The standalone map: 1, 2, then 4 and 5, or 10.
+              ("cell 0x4408 0 1", "cell 1 0 0 0"), ("cell 0x4400 8 1", "cell 1 0 0 0"),
+              ("cell 0x0008 0 1", "cell 1 0 0 0"), ("cell 0x0400 0 1", "cell 2 0 0 0"),
+              ("cell 0x4000 0 1", "cell 2 0 0 0"), ("cell 0x4400 5 1", "cell 2 0 0 0"),
+              ("cell 0x4400 0 262145", "cell 4 0 0 0"), ("cell 0x4400 0 262144", "cell 5 0 0 0"),
+              ("cell 0x4400 0 262142", "cell 0 0 511 255"), ("cell 0x4623 4 134217726", "cell 0 3 8191 2047"),
+              ("address 0x4408 0 1 0 0", "address 1 0"), ("address 0x4404 0 1 0 0", "address 2 0"),
+              ("address 0x4400 0 1 0 0", "address 10 0"), ("address 0x4400 0 0 512 0", "address 10 0"),
+              ("address 0x4400 0 0 0 256", "address 10 0"), ("address 0x4400 0 255 65535 65535", "address 10 0"),
+              ("address 0x4400 0 0 511 255", "address 0 262142"),
+              ("address 0x4623 4 3 8191 2047", "address 0 134217726"),
+              # A refused configuration leaves the blank machine.
+              ("config 0x4400 0 26 0", "config 3"), ("read 0", "read 8 0"), ("backlog", "backlog 8 0")]
+    dialogue("numbers", pairs)
+
+
+def form():
+    """Lines of every shape. A line of None is passed over, the others are answered."""
+    lines = [
+        (b"", None), (b"# a comment", None), (b"#", None), (b"#" * 300, None), (b"# \t\r\x00\xff", None),
+        (b"config 0x4400 0 27 0", "config 0"), (b"slot 0", "slot 0 NOP -"), (b"slot 0xfFfF", "slot 0 NOP -"),
+        (b"slot 65535", "slot 0 NOP -"), (b"slot 00000000000000000000001", "slot 0 NOP -"),
+        (b"slot 0x00000000000000000000001", "slot 0 NOP -"), (b"read 0", "read 0 1"), (b"read 0xFFFFFFFF", "read 4 0"),
+        (b"read 4294967295", "read 4 0"), (b"address 0x4400 0 0xFF 0xFFFF 0xFFFF", "address 10 0"),
+        (b"slot " + b"0" * 250, "slot 0 NOP -"), (b"slot " + b"0" * 251, "error"), (b"x" * 3000, "error"),
+    ]
+    errors = [
+        b"slot", b"slot 0 0", b"slot ", b"slot  0", b" slot 0", b"slot 0 ", b"slot\t0", b"slot 0\t", b"slot 0\r",
+        b"slot 0\x00", b"\x00", b"\r", b"\t", b" ", b"  ", b"Slot 0", b"SLOT 0", b"slots 0", b"slo 0", b"slot0",
+        b"slot 65536", b"slot 0x10000", b"slot 0x", b"slot 0X0", b"slot 00x0", b"slot x0", b"slot 0xG", b"slot a",
+        b"slot +0", b"slot -0", b"slot 0.", b"slot 1e0", b"slot 0h", b"slot 18446744073709551616",
+        b"slot 0x10000000000000000", b"slot 0 # comment", b" # comment", b"read", b"read 0 0", b"read 4294967296",
+        b"read 0x100000000", b"write 0", b"write 0 0 0", b"write 0 65536", b"write 4294967296 0", b"backlog 0",
+        b"backlog ", b"config", b"config 0x4400 0 27", b"config 0x4400 0 27 0 0", b"config 0x4400 0 27 4294967296",
+        b"cell 0x4400 0", b"cell 0x4400 0 0 0", b"cell 0x4400 0 4294967296", b"address 0x4400 0 0 0",
+        b"address 0x4400 0 0 0 0 0", b"address 0x4400 0 256 0 0", b"address 0x4400 0 0 65536 0",
+        b"address 0x4400 0 0 0 65536", b"run", b"0", b"\xff",
+    ]
+    lines += [(line, "error") for line in errors]
+    lines += [(b"", None), (b"backlog", "backlog 0 0")]     # the last line has no line feed
+    expected = [answer + " %d" % number if answer == "error" else answer
+                for number, (_, answer) in enumerate(lines, 1) if answer is not None]
+    store("form", [b"\n".join(line for line, _ in lines)], expected)
+
+
+def last_number():
+    """For a build whose last request number is 8: 6 comes before 7, and 7 stays."""
+    run = e1_machine()
+    for number in range(1, 8 + 1):
+        run.write(1, "0", number)
+    run.call(1, "write 0 9", "write 6 0")
+    run.call(1, "read 1", "read 4 0")
+    run.at(228, "ACT 0 0")
+    for number in range(1, 8 + 1):
+        run.written(228 + number, number, 0, 0, number)
+    run.call(230, "read 0", "read 7 0")
+    run.call(230, "read 262144", "read 5 0")
+    run.call(240, "write 0 9", "write 7 0")
+    run.store("last-number-8", 240)
+
+
+if __name__ == "__main__":
+    e1_to_e4()
+    for example in (e5, e6, e7, e8, e9, e10, e11, e12, must_run, must_only_at_a_choice, need_with_blocked_read,
+                    write_before_release, oldest_read_first, tight_distances, numbers, form, last_number):
+        example()

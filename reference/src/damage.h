@@ -1,0 +1,122 @@
+/*
+ * Damaged builds. `-DDAMAGE=NAME` builds the program with one thing wrong in its machine or in its
+ * register words; the plain SDRAM, the flat memory and the claims stay as they are. The self-test wants
+ * each of them found. An ordinary build is SOUND, and every line below then has no effect.
+ *
+ * selftest.sh takes the names from the enum, one a line.
+ */
+#ifndef DAMAGE_H
+#define DAMAGE_H
+
+enum damage {
+    SOUND,
+
+    /* A rule forgotten. Where the machine never comes near the rule, it also takes the step named. */
+    FORGET_R1, /* and the MRS word is CL */
+    FORGET_R2,
+    FORGET_R3, /* and no MRS is sent */
+    FORGET_R4, /* and no PRE before ACT */
+    FORGET_R5,
+    FORGET_R6,
+    FORGET_R7,
+    FORGET_R8, /* and no ACT */
+    FORGET_R9,
+    FORGET_R10, /* and a read is free in slot t + CL + 1 */
+    FORGET_R11, /* and PRE to a closed bank */
+    FORGET_R12,
+    FORGET_R13,
+    FORGET_R14, /* and REFR without DEAC */
+    FORGET_R15,
+
+    /* Half a rule forgotten. */
+    PRE_WITHOUT_TRAS,
+    PRE_WITHOUT_TWR,
+    DEAC_WITHOUT_TRAS,
+    DEAC_WITHOUT_TWR,
+
+    /* A distance one slot short, or one slot long. */
+    SHORT_TRFC,
+    SHORT_TRP,
+    SHORT_TRCD,
+    SHORT_TWR,
+    SHORT_TRAS,
+    SHORT_TRC,
+    SHORT_TRRD,
+    SHORT_AFTER_MRS, /* and the start leaves out its last NOP */
+    LONG_TRFC,
+    LONG_TRP,
+    LONG_TRCD,
+    LONG_TWR,
+    LONG_TRAS,
+    LONG_TRC,
+    LONG_TRRD,
+
+    /* The slips of document 01. */
+    READS_ALWAYS_FIRST,
+    MUST_STOPS_AT_11,
+    MAY_WITH_OPEN_BANK,
+    TWR_OF_LAST_BANK_ONLY,
+    BLOCKED_READ_HIDES_NEED,
+
+    /* The useless builds of document 01. */
+    REFUSE_EVERYTHING,
+    NOP_FOR_EVER,
+    LATER_WRITES_ONLY_REPORTED,
+    INVENTED_BACKLOG,
+
+    /* Words, numbers, map. */
+    BITS_NOT_TESTED,
+    FIELDS_BEFORE_BITS,
+    RR_FIVE_SPANS,
+    RR_ABOVE_LEAST,
+    SPAN_WITHOUT_TWR,
+    CAPACITY_TWO_MORE,
+    CAPACITY_TWO_LESS,
+    CAPACITY_BEFORE_ODD,
+    BANK_ABOVE_ROW,
+    QUEUE_OF_NINE,
+    FULL_BEFORE_ADDRESS,
+    USED_UP_BEFORE_FULL,
+    REFUSED_TAKES_NUMBER,
+
+    /* Start and counters. */
+    SEVEN_START_REFRESHES,
+    START_ONE_SHORT,
+    INTERVAL_RUNS_IN_START,
+    INTERVAL_ONE_LONG,
+    COUNT_AFTER_CHOICE,
+    BACKLOG_FALLS_AT_DEAC,
+
+    /* The choice. */
+    MUST_OUTSIDE_CHOICE,
+    MUST_FROM_11,
+    READS_BEFORE_MUST,
+    NEED_FROM_9,
+    NEED_AFTER_WRITES,
+    RELEASE_FROM_5,
+    RELEASE_BEFORE_WRITES,
+    MAY_FORGOTTEN,
+    BLOCK_OF_1024,
+    BLOCK_OF_4096,
+    NEWEST_READ,
+    NEWEST_WRITE,
+
+    /* The action. */
+    ROW_NOT_COMPARED,
+    DEAC_ONLY_IF_OPEN,
+    CL_ALWAYS_2,
+    READ_REPORTED_EARLY,
+    READ_FREE_EARLY,
+    READ_LEAVES_LATE,
+    WRITE_REPORTED_AGAIN,
+    WRITE_REPORTED_AS_READ
+};
+
+#ifndef DAMAGE
+#define DAMAGE SOUND
+#endif
+
+#define DAMAGED(name) (DAMAGE == (name))
+#define SLIP(name, sound, damaged) (DAMAGED(name) ? (damaged) : (sound))
+
+#endif

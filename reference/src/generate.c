@@ -1,0 +1,725 @@
+#include "generate.h"
+
+#include <inttypes.h>
+#include <stdbool.h>
+#include <stdio.h>
+
+#include "machine.h"
+#include "sdram.h"
+#include "words.h"
+
+/*
+ * The author plays the script on a machine and an SDRAM of its own while writing it: that gives the
+ * halfwords that the bus has to carry, and lets the traffic aim at the queue and the backlog.
+ */
+struct author {
+    uint64_t random; /* state of the random numbers */
+    uint64_t calls_left;
+    uint64_t geometry; /* number of the next accepted configuration's geometry */
+    bool line_written;
+    struct machine machine;
+    struct sdram sdram; /* begun exactly while the machine is not blank */
+};
+
+/* ---- Random numbers: splitmix64 ---- */
+
+static uint64_t draw64(struct author *a)
+{
+    uint64_t z = a->random += UINT64_C(0x9E3779B97F4A7C15);
+
+    z = (z ^ (z >> 30)) * UINT64_C(0xBF58476D1CE4E5B9);
+    z = (z ^ (z >> 27)) * UINT64_C(0x94D049BB133111EB);
+    return z ^ (z >> 31);
+}
+
+/*
+ * One of 0 to below - 1. Two draws never stand where C leaves their order open: a seed has to give the
+ * same script with every compiler.
+ */
+static uint32_t draw(struct author *a, uint32_t below)
+{
+    return (uint32_t)(draw64(a) % below);
+}
+
+static bool once_in(struct author *a, uint32_t times)
+{
+    return draw(a, times) == 0;
+}
+
+/* ---- Lines ---- */
+
+/* Line feeds stand between the lines, so that generate() decides about the last one. */
+static void begin_line(struct author *a)
+{
+    if (a->line_written)
+        putchar('\n');
+    a->line_written = true;
+}
+
+static void put_times(const char *text, unsigned times)
+{
+    while (times-- > 0)
+        fputs(text, stdout);
+}
+
+static void write_passed_over_line(struct author *a)
+{
+    begin_line(a);
+    switch (draw(a, 4)) {
+    case 0:
+        fputs("# slot 0", stdout);
+        break;
+    case 1:
+        put_times("# longer than 255 bytes ", 11);
+        break;
+    case 2:
+        fputs("#\tany\r byte \x80", stdout);
+        break;
+    default:
+        break; /* an empty line */
+    }
+}
+
+/* False when the script is full. */
+static bool begin_call(struct author *a)
+{
+    if (a->calls_left == 0)
+        return false;
+    a->calls_left--;
+    if (once_in(a, 500))
+        write_passed_over_line(a);
+    begin_line(a);
+    return true;
+}
+
+static void put_number(struct author *a, uint32_t number)
+{
+    static const char *const forms[] = {
+        " %" PRIu32,   " %" PRIu32,   " %" PRIu32,     " %" PRIu32,
+        " 0x%" PRIX32, " 0x%" PRIx32, " 000%" PRIu32, " 0x0%" PRIX32,
+    };
+
+    printf(forms[draw(a, 8)], number);
+}
+
+/* ---- Calls ---- */
+
+static void write_config(struct author *a, struct words w)
+{
+    struct configuration c;
+
+    if (!begin_call(a))
+        return;
+    fputs("config", stdout);
+    put_number(a, w.cfg);
+    put_number(a, w.row);
+    put_number(a, w.ref);
+    put_number(a, w.tim);
+    if (!a->machine.blank)
+        sdram_end(&a->sdram);
+    if (machine_configure(&a->machine, w) == ACCEPTED) {
+        configure(w, &c);
+        sdram_begin(&a->sdram, &c);
+    }
+}
+
+static void write_request(struct author *a, enum request_kind kind, uint32_t address)
+{
+    uint16_t halfword = (uint16_t)draw(a, 65536);
+
+    if (!begin_call(a))
+        return;
+    fputs(kind == READ_REQUEST ? "read" : "write", stdout);
+    put_number(a, address);
+    if (kind == READ_REQUEST) {
+        machine_read(&a->machine, address);
+    } else {
+        put_number(a, halfword);
+        machine_write(&a->machine, address, halfword);
+    }
+}
+
+static void write_read_or_write(struct author *a, uint32_t address)
+{
+    write_request(a, once_in(a, 2) ? READ_REQUEST : WRITE_REQUEST, address);
+}
+
+static void write_slot(struct author *a)
+{
+    uint16_t bus = (uint16_t)draw(a, 65536);
+    uint16_t data;
+    struct slot_answer answer;
+
+    if (!begin_call(a))
+        return;
+    if (!a->machine.blank && sdram_bus(&a->sdram, &data))
+        bus = data;
+    fputs("slot", stdout);
+    put_number(a, bus);
+    answer = machine_slot(&a->machine, bus);
+    if (!a->machine.blank)
+        sdram_slot(&a->sdram, answer.command);
+}
+
+static void write_backlog(struct author *a)
+{
+    if (begin_call(a))
+        fputs("backlog", stdout);
+}
+
+static void write_error_line(struct author *a)
+{
+    static const char *const lines[] = {
+        "slot",         "slot 0 0",      "slot 65536",    "slot 0x10000", "slot 0x",      "slot 0X1",
+        "slot x1",      "slot 0xg",      "slot -1",       "slot +1",      "slot 1.",      "slot 1a",
+        "slot  1",      " slot 1",       "slot 1 ",       "slot\t1",      "slot 1\r",     "Slot 1",
+        "slots 1",      "slo 1",         " ",             "\t",           "\r",           "backlog 0",
+        "backlog ",     "read",          "read 0 0",      "write 0",      "write 0 65536", "write 0 0 0",
+        "read 4294967296", "read 0x100000000", "config 0x4400 0 27",     "config 0x4400 0 27 0 0",
+        "config 0x4400 0 4294967296 0",  "cell 0x4400 0", "cell 0x4400 0 4294967296",
+        "address 0x4400 0 0 0",          "address 0x4400 0 256 0 0",      "address 0x4400 0 0 65536 0",
+        "address 0x4400 0 0 0 65536",    "reset",         "slot 99999999999999999999999",
+        "slot 0# no comment",            "0",             " # no comment either",
+    };
+    enum { LINES = sizeof lines / sizeof lines[0] };
+    uint32_t n = draw(a, LINES + 3);
+
+    if (!begin_call(a))
+        return;
+    if (n < LINES) {
+        fputs(lines[n], stdout);
+    } else if (n == LINES) {
+        fputs("slot ", stdout); /* 256 bytes */
+        put_times("0", 251);
+    } else if (n == LINES + 1) {
+        put_times("slot 0 ", 2000);
+    } else {
+        fputs("slot 0", stdout);
+        putchar('\0');
+    }
+}
+
+/* The longest line that is a call: 255 bytes. */
+static void write_longest_line(struct author *a)
+{
+    if (!begin_call(a))
+        return;
+    fputs("read ", stdout);
+    put_times("0", 249);
+    putchar('1');
+    machine_read(&a->machine, 1);
+}
+
+/* ---- Register words ---- */
+
+static const struct words named_bits = {0x4E77, 0x7, 0x1FFF, 0xFF77FF70};
+
+static const uint32_t tim_fields[] = {0xF8000000, 0x07000000, 0x00700000, 0x00070000,
+                                      0x0000F000, 0x00000F00, 0x00000070};
+enum { TIM_FIELDS = sizeof tim_fields / sizeof tim_fields[0] };
+
+static uint32_t draw_any_tim(struct author *a)
+{
+    uint32_t one_field = tim_fields[draw(a, TIM_FIELDS)];
+    uint32_t corner = 0;
+    unsigned n;
+
+    for (n = 0; n < TIM_FIELDS; n++)
+        if (once_in(a, 2))
+            corner |= tim_fields[n];
+    switch (draw(a, 8)) {
+    case 0:
+        return 0;
+    case 1:
+        return named_bits.tim;
+    case 2:
+        return one_field;
+    case 3:
+        return named_bits.tim & ~one_field;
+    case 4:
+        return (uint32_t)draw64(a) & named_bits.tim;
+    case 5:
+        return (uint32_t)draw64(a) & corner;
+    default:
+        return corner;
+    }
+}
+
+/* tRFC weighs most in RR. It is kept short in two of three, so that more happens in as many calls. */
+static uint32_t draw_tim(struct author *a)
+{
+    uint32_t tim = draw_any_tim(a);
+    uint32_t high_bits_of_trfc = 0xE0000000;
+
+    return once_in(a, 3) ? tim : tim & ~high_bits_of_trfc;
+}
+
+/* RR at its least or a little above it, so that the start is short; seldom a large one. */
+static uint32_t draw_rr(struct author *a, uint32_t least)
+{
+    switch (draw(a, 8)) {
+    case 0:
+    case 1:
+        return least + draw(a, 8);
+    case 2:
+        return least + draw(a, 200);
+    case 3:
+        if (once_in(a, 8) && a->calls_left > 1000000)
+            return least + draw(a, 8192 - least);
+        return least;
+    default:
+        return least;
+    }
+}
+
+enum { GEOMETRIES = 3 * 4 * 5 };
+
+/* IBANK 0 to 2, PAGESIZE 0 to 3, ROWSIZE 0 to 4. */
+static void set_geometry(struct words *w, uint32_t geometry)
+{
+    w->cfg = (w->cfg & ~UINT32_C(0x77)) | (geometry % 3) << 4 | (geometry / 3) % 4;
+    w->row = geometry / 12;
+}
+
+static struct words draw_words(struct author *a)
+{
+    struct words w;
+    struct configuration c;
+
+    w.cfg = 0x4000 | (2 + draw(a, 2)) << 9;
+    set_geometry(&w, draw(a, GEOMETRIES));
+    w.ref = named_bits.ref;
+    w.tim = draw_tim(a);
+    configure(w, &c);
+    w.ref = draw_rr(a, least_rr(&c));
+    return w;
+}
+
+static uint32_t draw_unnamed_bit(struct author *a, uint32_t named)
+{
+    uint32_t bit;
+
+    do {
+        bit = UINT32_C(1) << draw(a, 32);
+    } while ((bit & named) != 0);
+    return bit;
+}
+
+/* Spoils the words in one of the ways that numbers 1, 2 and 3 know. */
+static void spoil_words(struct author *a, struct words *w)
+{
+    struct configuration c;
+
+    configure(*w, &c);
+    switch (draw(a, 12)) {
+    case 0:
+        w->cfg |= draw_unnamed_bit(a, named_bits.cfg);
+        break;
+    case 1:
+        w->row |= draw_unnamed_bit(a, named_bits.row);
+        break;
+    case 2:
+        w->ref |= draw_unnamed_bit(a, named_bits.ref);
+        break;
+    case 3:
+        w->tim |= draw_unnamed_bit(a, named_bits.tim);
+        break;
+    case 4:
+        w->cfg &= ~UINT32_C(0x4000);
+        break;
+    case 5:
+        w->cfg = (w->cfg & ~UINT32_C(0xE00)) | ((4 + draw(a, 6)) % 8) << 9; /* CL 4 to 7, 0, 1 */
+        break;
+    case 6:
+        w->cfg = (w->cfg & ~UINT32_C(0x70)) | (3 + draw(a, 5)) << 4;
+        break;
+    case 7:
+        w->cfg = (w->cfg & ~UINT32_C(0x7)) | (4 + draw(a, 4));
+        break;
+    case 8:
+        w->row = (w->row & ~UINT32_C(0x7)) | (5 + draw(a, 3));
+        break;
+    case 9:
+        w->ref = draw(a, least_rr(&c));
+        break;
+    default:
+        w->ref = least_rr(&c) - 1;
+        break;
+    }
+}
+
+/* ---- The standalone map ---- */
+
+static struct cell draw_cell(struct author *a, struct geometry g)
+{
+    struct cell cell;
+
+    cell.bank = draw(a, 1u << g.bank_bits);
+    cell.row = draw(a, 1u << g.row_bits);
+    cell.column = draw(a, 1u << g.column_bits);
+    return cell;
+}
+
+static void write_cell(struct author *a, struct words w, uint32_t address)
+{
+    if (!begin_call(a))
+        return;
+    fputs("cell", stdout);
+    put_number(a, w.cfg);
+    put_number(a, w.row);
+    put_number(a, address);
+}
+
+static void write_address(struct author *a, struct words w, struct cell cell)
+{
+    if (!begin_call(a))
+        return;
+    fputs("address", stdout);
+    put_number(a, w.cfg);
+    put_number(a, w.row);
+    put_number(a, cell.bank);
+    put_number(a, cell.row);
+    put_number(a, cell.column);
+}
+
+static uint32_t draw_refused_address(struct author *a, struct geometry g)
+{
+    switch (draw(a, 5)) {
+    case 0:
+        return draw(a, capacity(g)) | 1;
+    case 1:
+        return capacity(g);
+    case 2:
+        return capacity(g) + 1;
+    case 3:
+        return capacity(g) + 2 * draw(a, capacity(g));
+    default:
+        return UINT32_C(0xFFFFFFFF) - draw(a, 2);
+    }
+}
+
+/* One number of the cell moved to or beyond the edge of the geometry. */
+static struct cell draw_outside_cell(struct author *a, struct geometry g)
+{
+    struct cell cell = draw_cell(a, g);
+
+    switch (draw(a, 3)) {
+    case 0:
+        cell.bank = 1u << g.bank_bits;
+        cell.bank += once_in(a, 2) ? 0 : draw(a, 256 - cell.bank);
+        break;
+    case 1:
+        cell.row = 1u << g.row_bits;
+        cell.row += once_in(a, 2) ? 0 : draw(a, 65536 - cell.row);
+        break;
+    default:
+        cell.column = 1u << g.column_bits;
+        cell.column += once_in(a, 2) ? 0 : draw(a, 65536 - cell.column);
+        break;
+    }
+    return cell;
+}
+
+static void write_map_call(struct author *a)
+{
+    struct words w = draw_words(a);
+    struct configuration c;
+    struct geometry g;
+
+    configure(w, &c);
+    g = c.geometry;
+    if (once_in(a, 4))
+        spoil_words(a, &w);
+    switch (draw(a, 4)) {
+    case 0:
+        write_cell(a, w, 2 * draw(a, capacity(g) / 2));
+        break;
+    case 1:
+        write_cell(a, w, draw_refused_address(a, g));
+        break;
+    case 2:
+        write_address(a, w, draw_cell(a, g));
+        break;
+    default:
+        write_address(a, w, draw_outside_cell(a, g));
+        break;
+    }
+}
+
+/* ---- Traffic ---- */
+
+enum spread {
+    ANYWHERE,
+    ROWS_OF_ONE_BANK,
+    ROWS_OF_EVERY_BANK,
+    ONE_ROW_OF_EACH_BANK, /* in different blocks; the rows stay open */
+    ONE_BLOCK,
+    TWO_BLOCKS,
+    EDGES,
+    SPREADS
+};
+
+enum pace {
+    IDLE,
+    NOW_AND_THEN,
+    BURST_AT_EXPIRY,
+    PAUSE_AT_EXPIRY, /* the queue runs empty, so that a refresh is under way when the interval ends */
+    KEEP_FULL,
+    PACES
+};
+
+enum { POOL = 8, NEVER = 16 };
+
+struct traffic {
+    uint32_t pool[POOL]; /* the addresses asked for; few, so that what is written is read again */
+    enum pace pace;
+    unsigned reads;         /* in a hundred */
+    unsigned until_backlog; /* the traffic ends when the backlog is as high */
+    uint32_t slots;         /* or after so many */
+    unsigned pause_from;    /* PAUSE_AT_EXPIRY: from this backlog on, */
+    unsigned pause;         /* for so many slots before the interval ends; another number each time */
+};
+
+static void fill_edges(struct geometry g, uint32_t *pool)
+{
+    uint32_t row_of_bank = UINT32_C(2) << g.column_bits;
+    uint32_t end = capacity(g);
+    uint32_t edges[POOL] = {0, end - 2, 2046, 2048, row_of_bank - 2, row_of_bank, end / 2 - 2, end / 2};
+    unsigned n;
+
+    for (n = 0; n < POOL; n++)
+        pool[n] = edges[n];
+}
+
+static void fill_pool(struct author *a, enum spread spread, uint32_t *pool)
+{
+    struct geometry g = a->machine.c.geometry;
+    struct cell base = draw_cell(a, g);
+    uint32_t blocks = capacity(g) / 2048;
+    uint32_t block[2];
+    unsigned n;
+
+    block[0] = draw(a, blocks);
+    block[1] = once_in(a, 2) ? (block[0] + 1) % blocks : draw(a, blocks);
+    for (n = 0; n < POOL; n++) {
+        struct cell cell = draw_cell(a, g);
+
+        if (spread == ROWS_OF_ONE_BANK) {
+            cell.bank = base.bank;
+            cell.row = (base.row + n) % (1u << g.row_bits);
+        } else if (spread == ROWS_OF_EVERY_BANK) {
+            cell.bank = n % (1u << g.bank_bits);
+            cell.row = (base.row + n / 4) % (1u << g.row_bits);
+        } else if (spread == ONE_ROW_OF_EACH_BANK) {
+            cell.bank = n % (1u << g.bank_bits);
+            cell.row = (base.row + 4 * cell.bank) % (1u << g.row_bits);
+        }
+        pool[n] = address_of(g, cell);
+        if (spread == ONE_BLOCK || spread == TWO_BLOCKS)
+            pool[n] = 2048 * block[spread == ONE_BLOCK ? 0 : n % 2] + 2 * draw(a, 1024);
+    }
+    if (spread == EDGES)
+        fill_edges(g, pool);
+}
+
+static struct traffic draw_traffic(struct author *a)
+{
+    static const unsigned shares[] = {0, 3, 50, 97, 100};
+    uint32_t RR = a->machine.c.RR;
+    struct traffic t;
+
+    fill_pool(a, draw(a, SPREADS), t.pool);
+    t.pace = draw(a, PACES);
+    t.reads = shares[draw(a, 5)];
+    t.until_backlog = NEVER;
+    t.slots = draw(a, 3 * RR) + 1;
+    t.pause_from = 1 + draw(a, 11);
+    t.pause = 0;
+    switch (draw(a, 8)) {
+    case 0: /* climb through the levels, to one of them or into Must and beyond */
+        t.pace = KEEP_FULL;
+        t.reads = 100;
+        t.until_backlog = once_in(a, 4) ? NEVER : 1 + draw(a, 12);
+        t.slots = 14 * RR;
+        break;
+    case 1: /* Need refreshes that meet an expiry */
+        t.pace = PAUSE_AT_EXPIRY;
+        t.reads = 100;
+        t.pause_from = 8 + draw(a, 4);
+        t.slots = 24 * RR;
+        break;
+    case 2:
+        t.pace = IDLE;
+        t.slots = draw(a, 6 * RR) + 1;
+        break;
+    case 3:
+        t.pace = KEEP_FULL;
+        t.reads = 50;
+        t.slots = draw(a, 14 * RR) + 1;
+        break;
+    case 4: /* a refresh soon after writes and reads of different banks */
+        t.pace = PAUSE_AT_EXPIRY;
+        t.reads = 50;
+        t.slots = 12 * RR;
+        fill_pool(a, ONE_ROW_OF_EACH_BANK, t.pool);
+        break;
+    case 5:
+        t.slots = draw(a, 20) + 1;
+        break;
+    default:
+        break;
+    }
+    return t;
+}
+
+static void write_pool_request(struct author *a, const struct traffic *t)
+{
+    enum request_kind kind = draw(a, 100) < t->reads ? READ_REQUEST : WRITE_REQUEST;
+
+    write_request(a, kind, t->pool[draw(a, POOL)]);
+}
+
+/* How many requests the traffic hands in before the coming slot. */
+static unsigned draw_requests(struct author *a, const struct traffic *t)
+{
+    const struct machine *m = &a->machine;
+    unsigned room = m->queued < QUEUE_ROOM ? QUEUE_ROOM - m->queued : 0;
+    bool near_expiry = m->interval <= 3 || m->interval + 3 >= m->c.RR;
+
+    switch (t->pace) {
+    case NOW_AND_THEN:
+        return once_in(a, 8);
+    case BURST_AT_EXPIRY:
+        return near_expiry && once_in(a, 2) ? 1 + draw(a, QUEUE_ROOM) : 0;
+    case PAUSE_AT_EXPIRY:
+        return (m->backlog < t->pause_from || m->interval > t->pause) && m->queued < 2;
+    case KEEP_FULL:
+        return room + once_in(a, 50); /* now and then one too many */
+    default:
+        return 0;
+    }
+}
+
+/* Calls of other kinds, refused ones and lines that are no calls. */
+static void write_aside(struct author *a)
+{
+    if (once_in(a, 25))
+        write_backlog(a);
+    if (once_in(a, 200) && !a->machine.blank)
+        write_read_or_write(a, draw_refused_address(a, a->machine.c.geometry));
+    if (once_in(a, 400))
+        write_error_line(a);
+    if (once_in(a, 400))
+        write_map_call(a);
+    if (once_in(a, 5000))
+        write_longest_line(a);
+}
+
+static void write_traffic(struct author *a)
+{
+    struct traffic t = draw_traffic(a);
+    uint32_t slot;
+
+    if (once_in(a, 4))
+        write_request(a, WRITE_REQUEST, t.pool[0]); /* the one write among endless reads */
+    for (slot = 0; slot < t.slots && a->calls_left > 0; slot++) {
+        unsigned requests;
+
+        if (a->machine.backlog >= t.until_backlog)
+            return;
+        if (a->machine.interval == a->machine.c.RR)
+            t.pause = draw(a, a->machine.c.RR / 3);
+        requests = draw_requests(a, &t);
+        while (requests-- > 0)
+            write_pool_request(a, &t);
+        write_aside(a);
+        write_slot(a);
+    }
+}
+
+/* ---- The script ---- */
+
+/* The slots of the start, sometimes with requests, sometimes cut short by the next configuration. */
+static bool write_start(struct author *a)
+{
+    const struct configuration *c = &a->machine.c;
+    uint32_t slots = 8 * c->RR + c->tRP + 8 * c->tRFC + 3;
+    bool cut = once_in(a, 20);
+    bool requests = once_in(a, 2);
+    uint32_t slot;
+
+    if (cut)
+        slots = draw(a, slots);
+    for (slot = 0; slot < slots && a->calls_left > 0; slot++) {
+        if (requests && once_in(a, 40))
+            write_read_or_write(a, 2 * draw(a, capacity(c->geometry) / 2));
+        write_aside(a);
+        write_slot(a);
+    }
+    return !cut;
+}
+
+static void write_blank_calls(struct author *a)
+{
+    unsigned calls = 1 + draw(a, 10);
+
+    while (calls-- > 0) {
+        switch (draw(a, 3)) {
+        case 0:
+            write_read_or_write(a, (uint32_t)draw64(a));
+            break;
+        case 1:
+            write_slot(a);
+            break;
+        default:
+            write_backlog(a);
+            break;
+        }
+        write_aside(a);
+    }
+}
+
+static void write_refused_configuration(struct author *a)
+{
+    struct words w = draw_words(a);
+
+    spoil_words(a, &w);
+    if (once_in(a, 2))
+        spoil_words(a, &w);
+    write_config(a, w);
+    if (a->machine.blank)
+        write_blank_calls(a);
+}
+
+static void write_accepted_configuration(struct author *a)
+{
+    unsigned phases = 5 + draw(a, 9);
+    struct words w = draw_words(a);
+
+    set_geometry(&w, (uint32_t)(a->geometry++ % GEOMETRIES));
+    write_config(a, w);
+    if (a->machine.blank || !write_start(a))
+        return;
+    while (phases-- > 0 && a->calls_left > 0)
+        write_traffic(a);
+}
+
+void generate(uint64_t seed, uint64_t calls)
+{
+    static struct author a; /* zero at first */
+
+    a.random = seed;
+    a.calls_left = calls;
+    a.geometry = 8 * seed; /* short scripts of neighbouring seeds come by different ones */
+    machine_blank(&a.machine);
+    write_blank_calls(&a);
+    while (a.calls_left > 0) {
+        while (!once_in(&a, 10))
+            write_refused_configuration(&a);
+        write_accepted_configuration(&a);
+    }
+    if (!a.machine.blank)
+        sdram_end(&a.sdram);
+    if (a.line_written && seed % 2 == 0)
+        putchar('\n'); /* odd seeds: the last line has no line feed */
+}
