@@ -7,11 +7,11 @@ use mathlib.Core.Path.{_≡_, refl, sym, ap, _∙_}
 use mathlib.Core.Bool.{Bool, true, false, cond, _&&_, and-eq-true-iff}
 use lib.Pow.{pow-pos, pow-mono, shr-lt, shl-shr, shl-lt, pow-add, split, high, low}
 use lib.Arith.{digits-lt}
-use lib.Dec.{ltb, eqb}
-use borrow.Author.Tests.{ltb-true, eqb-true, eqb-false, lt-ltb}
+use lib.Dec.{ltb, leb, eqb}
+use borrow.Author.Tests.{ltb-true, leb-false, eqb-false, lt-ltb}
 use Rattle.config.specs.Accepted.{Shaped}
 use Rattle.config.specs.declared.Geometry.{Geometry}
-use Rattle.address.specs.Map.{capacityOf, addressNumberOf, cellOf, addressOf, holdsOf, Holds}
+use Rattle.address.specs.Map.{capacityOf, addressNumberOf, cellOf, addressOf, holdsOf, Holds, Determined}
 use Rattle.address.specs.declared.Cell.{Cell}
 
 module _ (g : Geometry) where
@@ -82,7 +82,18 @@ module _ (g : Geometry) where
   unfolding holdsOf
   true-holds c h = simp (lt-ltb _ _ (h .bank), lt-ltb _ _ (h .row), lt-ltb _ _ (h .column))
 
+pub determined : (g : Geometry) → Determined g
+determined g =
+    record { within = cell-within g; even = address-even g; below = address-below g; back = address-back g; forth = cell-back g }
+
 -- What an accepted geometry bounds.
+
+pub capacity-range : (g : Geometry) → Shaped g → (262144 ≤ capacityOf g) × (capacityOf g ≤ 134217728)
+unfolding capacityOf
+capacity-range g s = (
+  pow-mono {i = 18} {j = g .rows + g .banks + g .columns + 1} (omega (arith, s .rows-least, s .columns-least)),
+  pow-mono {i = g .rows + g .banks + g .columns + 1} {j = 27} (omega (arith, s .rows-most, s .banks-most, s .columns-most)),
+)
 
 pub record Small (c : Cell) : Type 0 where
   pub bank : c .bank .0 < 4
@@ -110,9 +121,9 @@ word-small g s = pow-mono {i = g .rows + g .banks + g .columns} {j = 26} (omega 
 -- an address that gets no number is even and below the capacity
 pub address-good : (g : Geometry) (a : ℕ) → addressNumberOf g a ≡ 0 → (a % 2 ≡ 0) × (a < capacityOf g)
 unfolding addressNumberOf
-address-good g a h = by-tests (eqb (a % 2) 0) (ltb a (capacityOf g)) refl refl h
+address-good g a h = by-tests (eqb (a % 2) 1) (leb (capacityOf g) a) refl refl h
   where
-    by-tests : (e l : Bool) → eqb (a % 2) 0 ≡ e → ltb a (capacityOf g) ≡ l → _≡_ {A = ℕ} (cond e (cond l 0 5) 4) 0 → (a % 2 ≡ 0) × (a < capacityOf g)
-    by-tests true true e l n = (eqb-true _ _ e, ltb-true _ _ l)
-    by-tests true false e l n = absurd (eqb-false 5 0 refl n)
-    by-tests false l e f n = absurd (eqb-false 4 0 refl n)
+    by-tests : (o b : Bool) → eqb (a % 2) 1 ≡ o → leb (capacityOf g) a ≡ b → _≡_ {A = ℕ} (cond o 4 (cond b 5 0)) 0 → (a % 2 ≡ 0) × (a < capacityOf g)
+    by-tests true b e f n = absurd (eqb-false 4 0 refl n)
+    by-tests false true e f n = absurd (eqb-false 5 0 refl n)
+    by-tests false false e f n = let odd = eqb-false (a % 2) 1 e in (omega arith, leb-false (capacityOf g) a f)

@@ -2,7 +2,7 @@
 use Prim.Native.Nat.{ℕ, _+_, _*_, _/_, _%_, _^_, _<_}
 use mathlib.Core.Bool.{Bool, cond, _&&_}
 use mathlib.Core.Path.{_≡_}
-use lib.Dec.{eqb, ltb}
+use lib.Dec.{eqb, leb, ltb}
 use Rattle.config.specs.declared.Geometry.{Geometry}
 use Rattle.address.specs.declared.Bank.{Bank}
 use Rattle.address.specs.declared.Row.{Row}
@@ -35,9 +35,18 @@ pub record Holds (g : Geometry) (c : Cell) : Type 0 where
   pub row : c .row .0 < 2 ^ (g .rows)
   pub column : c .column .0 < 2 ^ (g .columns)
 
+-- Address and cell determine each other: every even address below the capacity has one cell within the geometry, and every such cell one
+-- such address.
+pub record Determined (g : Geometry) : Type 0 where
+  pub within : (a : ℕ) → a < capacityOf g → Holds g (cellOf g a)
+  pub even : (c : Cell) → addressOf g c % 2 ≡ 0
+  pub below : (c : Cell) → Holds g c → addressOf g c < capacityOf g
+  pub back : (a : ℕ) → a % 2 ≡ 0 → addressOf g (cellOf g a) ≡ a
+  pub forth : (c : Cell) → Holds g c → cellOf g (addressOf g c) ≡ c
+
 -- the number for an address: 4 where it is odd, then 5 where it is at or beyond the capacity, else 0
 unfoldable pub addressNumberOf : Geometry → ℕ → ℕ
-addressNumberOf g a = cond (eqb (a % 2) 0) (cond (ltb a (capacityOf g)) 0 5) 4
+addressNumberOf g a = cond (eqb (a % 2) 1) 4 (cond (leb (capacityOf g) a) 5 0)
 
 -- a block is 2,048 bytes
 abbrev pub blockOf : ℕ → ℕ

@@ -55,13 +55,13 @@ pub fn address_number(g: Geometry, address: u32) -> u8
     requires { ⌜ Shaped g ⌝ }
     ensures { λ r. ⌜ r ≡ addressNumberOf g address ⌝ }
 {
-    if address % 2 != 0 {
+    if address % 2 == 1 {
         return 4;
     }
-    if address < capacity(g) {
-        return 0;
+    if capacity(g) <= address {
+        return 5;
     }
-    5
+    0
 }
 
 // The cell of an address within the device.

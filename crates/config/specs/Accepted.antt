@@ -1,6 +1,11 @@
 -- What holds of every accepted configuration: the ranges that the fields leave, and document 01's A, F and condition for number 3.
+-- As facts, and as the test that a record is put to.
 use Prim.Native.Nat.{ℕ, _+_, _*_, _≤_, max}
 use mathlib.Core.Path.{_≡_}
+use mathlib.Core.Bool.{Bool, true, false, cond, _&&_, _||_, not}
+use mathlib.Core.List.{List, [], _∷_}
+use lib.Dec.{eqb, leb, ltb}
+use Rattle.config.specs.Setting.{accessSpan, refreshSpan, tooShort}
 use Rattle.config.specs.declared.Geometry.{Geometry}
 use Rattle.config.specs.declared.Config.{Config}
 
@@ -33,3 +38,39 @@ pub record Accepted (c : Config) : Type 0 where
   pub access-span : c .access ≡ max (c .ras) (c .wr) + c .rp + c .rc + c .rrd + c .rcd + c .latency + 2
   pub refresh-span : c .refresh ≡ max (c .ras) (c .wr) + c .rp + c .rfc
   pub long-enough : c .access + 6 * c .refresh ≤ c .rr
+
+-- The test.
+
+-- a number below `low` or above `high`
+abbrev pub outsideOf : ℕ → ℕ → ℕ → Bool
+outsideOf low high n = ltb n low || ltb high n
+
+abbrev pub noneOf : List Bool → Bool
+noneOf [] = true
+noneOf (b ∷ bs) = cond b false (noneOf bs)
+
+unfoldable pub shapedOf : Geometry → Bool
+shapedOf g = noneOf (outsideOf 8 11 (g .columns) ∷ outsideOf 0 2 (g .banks) ∷ outsideOf 9 13 (g .rows) ∷ [])
+
+unfoldable pub distancesOf : Config → Bool
+distancesOf c =
+    noneOf
+    (outsideOf 2 3 (c .latency)
+    ∷ outsideOf 1 32 (c .rfc)
+    ∷ outsideOf 1 8 (c .rp)
+    ∷ outsideOf 1 8 (c .rcd)
+    ∷ outsideOf 1 8 (c .wr)
+    ∷ outsideOf 1 16 (c .ras)
+    ∷ outsideOf 1 16 (c .rc)
+    ∷ outsideOf 1 8 (c .rrd)
+    ∷ [])
+
+-- the spans are those of the distances, and the interval is long enough
+unfoldable pub spannedOf : Config → Bool
+spannedOf c =
+    eqb (c .access) (accessSpan (max (c .ras) (c .wr)) (c .rp) (c .rc) (c .rrd) (c .rcd) (c .latency))
+    && (eqb (c .refresh) (refreshSpan (max (c .ras) (c .wr)) (c .rp) (c .rfc))
+    && noneOf (tooShort (c .rr) (c .access) (c .refresh) ∷ ltb 8191 (c .rr) ∷ []))
+
+unfoldable pub acceptedOf : Config → Bool
+acceptedOf c = shapedOf (c .geometry) && (distancesOf c && spannedOf c)

@@ -2,7 +2,8 @@
 ghost use mathlib.Core.Path.{_≡_};
 ghost use Prim.Native.Nat.{_<_, _^_, max};
 ghost use Rattle.config.specs.Words.{bits, fieldOf, anySet, cfgReserved, rowReserved, refReserved, timReserved, reservedMap, reservedAll};
-ghost use Rattle.config.specs.Setting.{offeredOf, geometryOf, configOf, tooShort, checkedOf, refusedOf, settingOf, mapNumberOf};
+ghost use Rattle.config.specs.Setting.{offeredOf, geometryOf, configOf, tooShort, checkedOf, refusedOf, settingOf, mapNumberOf, accessSpan, refreshSpan};
+ghost use Rattle.config.specs.Accepted.{outsideOf, shapedOf, distancesOf, spannedOf, acceptedOf};
 
 // The device's shape: how many bits number its columns, banks and rows.
 pub struct Geometry {
@@ -268,4 +269,104 @@ pub fn map_number(cfg: u32, row: u32) -> u8
         return 0;
     }
     2
+}
+
+fn outside(low: u8, high: u8, n: u8) -> bool
+    ensures { λ r. ⌜ r ≡ outsideOf low high n ⌝ }
+{
+    if n < low {
+        return true;
+    }
+    high < n
+}
+
+// Are the widths ones that are offered?
+pub fn shaped(g: Geometry) -> bool
+    ensures { λ r. ⌜ r ≡ shapedOf g ⌝ }
+{
+    if outside(8, 11, g.columns) {
+        return false;
+    }
+    if outside(0, 2, g.banks) {
+        return false;
+    }
+    if outside(9, 13, g.rows) {
+        return false;
+    }
+    true
+}
+
+fn distances(c: Config) -> bool
+    ensures { λ r. ⌜ r ≡ distancesOf c ⌝ }
+{
+    if outside(2, 3, c.latency) {
+        return false;
+    }
+    if outside(1, 32, c.rfc) {
+        return false;
+    }
+    if outside(1, 8, c.rp) {
+        return false;
+    }
+    if outside(1, 8, c.rcd) {
+        return false;
+    }
+    if outside(1, 8, c.wr) {
+        return false;
+    }
+    if outside(1, 16, c.ras) {
+        return false;
+    }
+    if outside(1, 16, c.rc) {
+        return false;
+    }
+    if outside(1, 8, c.rrd) {
+        return false;
+    }
+    true
+}
+
+fn access_span(m: u8, rp: u8, rc: u8, rrd: u8, rcd: u8, latency: u8) -> u32
+    ensures { λ r. ⌜ r ≡ accessSpan m rp rc rrd rcd latency ⌝ }
+{
+    m as u32 + rp as u32 + rc as u32 + rrd as u32 + rcd as u32 + latency as u32 + 2
+}
+
+fn refresh_span(m: u8, rp: u8, rfc: u8) -> u32
+    ensures { λ r. ⌜ r ≡ refreshSpan m rp rfc ⌝ }
+{
+    m as u32 + rp as u32 + rfc as u32
+}
+
+// Are the spans those of the distances, and is the interval long enough?
+fn spanned(c: Config) -> bool
+    ensures { λ r. ⌜ r ≡ spannedOf c ⌝ }
+{
+    let m = larger(c.ras, c.wr);
+    if c.access as u32 != access_span(m, c.rp, c.rc, c.rrd, c.rcd, c.latency) {
+        return false;
+    }
+    if c.refresh as u32 != refresh_span(m, c.rp, c.rfc) {
+        return false;
+    }
+    if too_short(c.rr, c.access, c.refresh) {
+        return false;
+    }
+    if 8191 < c.rr {
+        return false;
+    }
+    true
+}
+
+// Is this a configuration that the register words can give?
+pub fn accepted(c: Config) -> bool
+    ensures { λ r. ⌜ r ≡ acceptedOf c ⌝ }
+{
+    if shaped(c.geometry) {
+        if distances(c) {
+            return spanned(c);
+        }
+        return false;
+    }
+    false
 }
