@@ -1,0 +1,129 @@
+-- Acceptance and removal on the queue as a list, and that they keep it tidy: each by the law for prefixes and rests after its change.
+use Prim.Native.Nat.{ℕ, zero, suc, _+_, _-_, _≤_, _<_}
+use mathlib.Core.Path.{_≡_, refl, sym, ap, _∙_}
+use mathlib.Core.List.{List, [], _∷_, _++_}
+use native.Mathlib.Numerals.{add-one}
+use native.Mathlib.Nat.{le-of-suc-le-suc, not-suc-le-zero}
+use native.Mathlib.Decide.{decLt}
+use native.Mathlib.Omega.{arith}
+use borrow.Author.Tests.{lt-ltb, le-ltb}
+use lib.ListN.{length, getD, take, drop, replicate, length-append, length-set, replicate-append-replicate, getD-replicate, List·getD-eq-default, List·getD-append}
+use lib.Seq.{getD-take, getD-drop, take-suc-set, take-nil, drop-nil, length-take-le, drop-set-lt, drop-drop, take-append-le, drop-append-le}
+use Rattle.queue.specs.declared.Request.{Request}
+use Rattle.queue.specs.declared.Queue.{Queue}
+use Rattle.queue.specs.Places.{blankOf, heldOf, without, emptyOf, acceptOf, removeOf, getOf, Tidy}
+use Rattle.queue.proofs.Walks.{length-without}
+
+pub tidy-length : {q : Queue} → Tidy q → length (heldOf q) ≡ q .count
+tidy-length {q} t = length-take-le (q .count) (q .places) (rw (t .eight) (t .within))
+
+pub held-empty : heldOf emptyOf ≡ []
+unfolding emptyOf
+held-empty = refl
+
+pub tidy-empty : Tidy emptyOf
+unfolding emptyOf
+tidy-empty = record { eight = refl; within = omega arith; unused = refl }
+
+pub held-accept : {q : Queue} (r : Request) → Tidy q → q .count < 8 → heldOf (acceptOf q r) ≡ heldOf q ++ (r ∷ [])
+unfolding acceptOf
+held-accept {q} r t h =
+    let k : q .count < length (q .places) = rw (t .eight) h in
+    simp (lt-ltb _ _ h, add-one) (take-suc-set (q .places) (q .count) r k)
+
+pub tidy-accept : {q : Queue} (r : Request) → Tidy q → Tidy (acceptOf q r)
+unfolding acceptOf
+tidy-accept {q} r t = go (decLt (q .count) 8)
+  where
+    go : Dec (q .count < 8) → Tidy (acceptOf q r)
+    go (yes h) =
+        let e : 8 - q .count ≡ suc (8 - (q .count + 1)) = omega arith in
+        simp (lt-ltb _ _ h)
+        (record {
+          eight = length-set (q .places) (q .count) r ∙ t .eight;
+          within = omega arith;
+          unused =
+              drop-set-lt (q .count + 1) (q .places) (q .count) r (omega arith)
+              ∙ sym (drop-drop 1 (q .count) (q .places))
+              ∙ rw (t .unused, e);
+        })
+    go (no h) = simp (le-ltb (q .count) 8 (omega arith)) t
+
+take-without : (at n : ℕ) (l : List Request) → at ≤ n → take n (without at l) ≡ without at (take (suc n) l)
+unfolding without
+take-without zero n [] h = take-nil n
+take-without (suc at) n [] h = take-nil n
+take-without zero n (x ∷ xs) h = refl
+take-without (suc at) zero (x ∷ xs) h = absurd (not-suc-le-zero h)
+take-without (suc at) (suc n) (x ∷ xs) h = ap {B = List Request} (λ l. x ∷ l) (take-without at n xs (le-of-suc-le-suc h))
+
+drop-without : (at n : ℕ) (l : List Request) → at ≤ n → drop n (without at l) ≡ drop (suc n) l
+unfolding without
+drop-without zero n [] h = drop-nil n
+drop-without (suc at) n [] h = drop-nil n
+drop-without zero n (x ∷ xs) h = refl
+drop-without (suc at) zero (x ∷ xs) h = absurd (not-suc-le-zero h)
+drop-without (suc at) (suc n) (x ∷ xs) h = drop-without at n xs (le-of-suc-le-suc h)
+
+module _ {q : Queue} (at : ℕ) (t : Tidy q) (h : at < q .count) where
+  -- the places that are left, before the blank one
+  rest-length : length (without at (q .places)) ≡ 7
+  rest-length = length-without at (q .places) (omega (arith, t .eight, t .within)) ∙ rw (t .eight)
+
+  count-before : q .count ≡ suc (q .count - 1)
+  count-before = omega arith
+
+  unused-more : 8 - q .count + 1 ≡ 8 - (q .count - 1)
+  unused-more = omega (arith, t .within)
+
+  pub held-remove : heldOf (removeOf q at) ≡ without at (heldOf q)
+  unfolding removeOf
+  held-remove =
+      simp (tidy-length t, lt-ltb _ _ h)
+      (take-append-le (q .count - 1) (without at (q .places)) (blankOf ∷ []) (omega (arith, rest-length, t .within))
+      ∙ take-without at (q .count - 1) (q .places) (omega arith)
+      ∙ ap (λ (n : ℕ). without at (take n (q .places))) (sym count-before))
+
+  tidy-removed : Tidy (removeOf q at)
+  unfolding removeOf
+  tidy-removed =
+      simp (tidy-length t, lt-ltb _ _ h)
+      (record {
+        eight = length-append (without at (q .places)) (blankOf ∷ []) ∙ rw rest-length;
+        within = omega (arith, t .within);
+        unused =
+            drop-append-le (q .count - 1) (without at (q .places)) (blankOf ∷ []) (omega (arith, rest-length, t .within))
+            ∙ rw (drop-without at (q .count - 1) (q .places) (omega arith), ← count-before, t .unused)
+            (replicate-append-replicate (8 - q .count) 1 blankOf ∙ ap (λ (n : ℕ). replicate n blankOf) unused-more);
+      })
+
+pub tidy-remove : {q : Queue} (at : ℕ) → Tidy q → Tidy (removeOf q at)
+unfolding removeOf
+tidy-remove {q} at t = go (decLt at (q .count))
+  where
+    go : Dec (at < q .count) → Tidy (removeOf q at)
+    go (yes h) = tidy-removed at t h
+    go (no h) = simp (tidy-length t, le-ltb at (q .count) (omega arith)) t
+
+-- each place as an element of the list: an unused place and no place read as blank
+pub get-held : {q : Queue} (at : ℕ) → Tidy q → getOf q at ≡ getD (heldOf q) at blankOf
+unfolding getOf
+get-held {q} at t = go (decLt at (q .count)) (decLt at 8)
+  where
+    go : Dec (at < q .count) → Dec (at < 8) → getOf q at ≡ getD (heldOf q) at blankOf
+    go (yes h) e = simp (lt-ltb at 8 (omega (arith, t .within))) (sym (getD-take (q .count) (q .places) at blankOf h))
+    go (no h) (yes e) =
+        let k : q .count + (at - q .count) ≡ at = omega arith in
+        simp (lt-ltb at 8 e, List·getD-eq-default (heldOf q) blankOf {n = at} (omega (arith, tidy-length t)))
+        (ap (λ (i : ℕ). getD (q .places) i blankOf) (sym k)
+        ∙ sym (getD-drop (q .count) (q .places) (at - q .count) blankOf)
+        ∙ rw (t .unused) (getD-replicate (8 - q .count) (at - q .count) blankOf blankOf (omega arith)))
+    go (no h) (no e) =
+        simp (le-ltb at 8 (omega arith), List·getD-eq-default (heldOf q) blankOf {n = at} (omega (arith, tidy-length t)))
+
+-- acceptance leaves the queued requests in their places
+pub get-accept : {q : Queue} (r : Request) (at : ℕ) → Tidy q → at < q .count → q .count < 8 → getOf (acceptOf q r) at ≡ getOf q at
+get-accept {q} r at t h k =
+    get-held at (tidy-accept r t)
+    ∙ rw (held-accept r t k) (List·getD-append (heldOf q) (r ∷ []) blankOf at (rw (tidy-length t) h))
+    ∙ sym (get-held at t)
