@@ -1,2 +1,3 @@
 -- Document 01, "Marked examples".
+pub mod Run
 pub mod Table

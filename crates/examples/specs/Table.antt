@@ -1,5 +1,6 @@
 -- Document 01's marked examples: what is asked, what the definitions answer, and what the paper says.
 use Prim.Native.Nat.{ℕ}
+use mathlib.Core.Bool.{false}
 use mathlib.Core.List.{List, [], _∷_}
 use Rattle.config.specs.declared.Config.{Config}
 use Rattle.config.specs.declared.Setting.{Setting}
@@ -7,18 +8,30 @@ use Rattle.config.specs.Setting.{settingOf}
 use Rattle.address.specs.declared.Cell.{Cell}
 use Rattle.address.specs.declared.ToCell.{ToCell}
 use Rattle.address.specs.Standalone.{toCellOf}
+use Rattle.command.specs.declared.Command.{Command}
+use Rattle.command.specs.declared.Command.the-variants.{Act, Read, Wrt, Pre, Deac, Refr, Mrs}
+use Rattle.service.specs.declared.Report.{Report}
+use Rattle.sequencer.specs.Calls.{configureOf}
+use Rattle.model.specs.World.{Call, read, write}
+use Rattle.examples.specs.Run.{Event, sent, told, free, watched, requested, numbersOf}
 
 pub data Question : Type 0 where
   -- what do four register words give?
   words : (cfg row ref tim : ℕ) → Question
   -- which cell has this address, under a CFG and a ROW word?
   cell : (cfg row address : ℕ) → Question
+  -- with these requests queued before slot 1, what happens in the first n slots, from slot `from` on, if the bus carries 7?
+  bus : (cfg row ref tim : ℕ) (calls : List Call) (n from : ℕ) → Question
+  -- in which order are these requests reported within n slots?
+  order : (cfg row ref tim : ℕ) (calls : List Call) (n : ℕ) → Question
 
 pub data Answer : Type 0 where
   -- a number of the table, the access span A and the refresh span F
   spans : (number access refresh : ℕ) → Answer
   -- a number of the table and a cell
   place : (number bank row column : ℕ) → Answer
+  events : List Event → Answer
+  numbers : List ℕ → Answer
 
 abbrev pub ofSetting : Setting → Answer
 ofSetting s = spans (s .number) (s .config .access) (s .config .refresh)
@@ -30,10 +43,25 @@ ofCell r = place (r .number) (r .cell .bank .0) (r .cell .row .0) (r .cell .colu
 unfoldable pub answer : Question → Answer
 answer (words cfg row ref tim) = ofSetting (settingOf cfg row ref tim)
 answer (cell cfg row a) = ofCell (toCellOf cfg row a)
+answer (bus cfg row ref tim calls n from) = events (watched n 1 from false 7 (requested (configureOf cfg row ref tim .machine) calls))
+answer (order cfg row ref tim calls n) = numbers (numbersOf (watched n 1 1 false 7 (requested (configureOf cfg row ref tim .machine) calls)))
 
 pub record Example : Type 0 where
   pub asked : Question
   pub said : Answer
+
+-- commands with plain numbers
+abbrev pub ACT : ℕ → ℕ → Command
+ACT b r = Act (record { 0 = b }) (record { 0 = r })
+
+abbrev pub READ : ℕ → ℕ → Command
+READ b k = Read (record { 0 = b }) (record { 0 = k })
+
+abbrev pub WRT : ℕ → ℕ → ℕ → Command
+WRT b k h = Wrt (record { 0 = b }) (record { 0 = k }) h
+
+abbrev pub PRE : ℕ → Command
+PRE b = Pre (record { 0 = b })
 
 abbrev pub row : Question → Answer → Example
 row q a = record { asked = q; said = a }
@@ -50,6 +78,31 @@ table =
     -- E4
     ∷ row (words 0x4620 4 136 0x42215810) (spans 0 28 18)
     ∷ row (words 0x4620 4 135 0x42215810) (spans 3 0 0)
+    -- E5
+    ∷ row (bus 0x4400 0 27 0 (write 0 9 ∷ read 0 ∷ []) 234 1)
+    (events
+    (sent 217 Deac ∷ sent 218 Refr ∷ sent 219 Refr ∷ sent 220 Refr ∷ sent 221 Refr ∷ sent 222 Refr ∷ sent 223 Refr ∷ sent 224 Refr ∷ sent 225 Refr ∷ sent 226 (Mrs 32)
+    ∷ sent 228 (ACT 0 0) ∷ sent 229 (WRT 0 0 9) ∷ told 229 (Report.Write 1) ∷ free 230 ∷ sent 230 (READ 0 0) ∷ told 232 (Report.Read 2 7) ∷ free 234 ∷ []))
+    -- E6
+    ∷ row (bus 0x4400 0 27 0 (write 0 9 ∷ read 0 ∷ []) 362 235)
+    (events (sent 335 Deac ∷ sent 336 Refr ∷ free 337 ∷ sent 337 Deac ∷ sent 338 Refr ∷ free 339 ∷ sent 339 Deac ∷ sent 340 Refr ∷ free 341 ∷ sent 341 Deac ∷ sent 342 Refr ∷ free 343 ∷ sent 362 Deac ∷ []))
+    -- E7, with s = 1166, the first service slot of E4's machine
+    ∷ row (bus 0x4620 4 136 0x42215810 (write 0 1 ∷ write 0x800 2 ∷ []) 1178 1166)
+    (events
+    (sent 1166 (ACT 0 0) ∷ sent 1169 (WRT 0 0 1) ∷ told 1169 (Report.Write 1) ∷ free 1170
+    ∷ sent 1172 (PRE 0) ∷ sent 1175 (ACT 0 1) ∷ sent 1178 (WRT 0 0 2) ∷ told 1178 (Report.Write 2) ∷ []))
+    -- E8
+    ∷ row (bus 0x4620 4 136 0x42215810 (write 0 1 ∷ write 0x200 2 ∷ []) 1173 1166)
+    (events
+    (sent 1166 (ACT 0 0) ∷ sent 1169 (WRT 0 0 1) ∷ told 1169 (Report.Write 1) ∷ free 1170
+    ∷ sent 1170 (ACT 1 0) ∷ sent 1173 (WRT 1 0 2) ∷ told 1173 (Report.Write 2) ∷ []))
+    -- E9
+    ∷ row (bus 0x4620 4 136 0x42215810 (read 0 ∷ []) 1174 1166)
+    (events (sent 1166 (ACT 0 0) ∷ sent 1169 (READ 0 0) ∷ told 1172 (Report.Read 1 7) ∷ free 1174 ∷ []))
+    -- E10: read 0x800, write 0, read 0
+    ∷ row (order 0x4620 4 136 0x42215810 (write 0 1 ∷ read 0 ∷ read 0x800 ∷ []) 1226) (numbers (3 ∷ 1 ∷ 2 ∷ []))
+    -- E11: the read waits
+    ∷ row (order 0x4620 4 136 0x42215810 (write 0 1 ∷ read 0x7fe ∷ []) 1226) (numbers (1 ∷ 2 ∷ []))
     -- E12: 8 column, 2 bank, 13 row bits
     ∷ row (cell 0x4420 4 0x200) (place 0 1 0 0)
     ∷ row (cell 0x4420 4 0x7fe) (place 0 3 0 255)

@@ -1,0 +1,7 @@
+-- What the device allows (document 01, "Commands and their distances").
+pub mod View
+pub mod Rules
+pub mod History
+pub mod Ages
+pub mod Bounds
+pub mod Examples

@@ -1,0 +1,75 @@
+-- What a logic analyser sees of a machine: the slots that carry a command or a report, and the slots in which the machine is free again.
+use Prim.Native.Nat.{ℕ, zero, suc}
+use mathlib.Core.Bool.{Bool, true, false, cond, _&&_, not}
+use mathlib.Core.List.{List, [], _∷_, _++_}
+use lib.Dec.{leb}
+use Rattle.command.specs.declared.Command.{Command}
+use Rattle.command.specs.declared.Command.the-variants.{Nop, Act, Read, Wrt, Pre, Deac, Refr, Mrs}
+use Rattle.refresh.specs.Counting.{tickOf}
+use Rattle.refresh.specs.Urgency.{levelOf}
+use Rattle.startup.specs.Start.{isDone}
+use Rattle.service.specs.declared.Action.{Action}
+use Rattle.service.specs.declared.Report.{Report}
+use Rattle.service.specs.Actions.{isIdle}
+use Rattle.sequencer.specs.declared.Machine.{Machine}
+use Rattle.sequencer.specs.declared.Slot.{Slot}
+use Rattle.sequencer.specs.Machine.{chosenOf}
+use Rattle.sequencer.specs.Calls.{readRequestOf, writeRequestOf, slotOf}
+use Rattle.model.specs.World.{Call, read, write, slot, backlog}
+
+pub data Event : Type 0 where
+  -- a slot carries this command
+  sent : ℕ → Command → Event
+  -- a slot has this report
+  told : ℕ → Report → Event
+  -- the first slot in which a choice can be made again
+  free : ℕ → Event
+
+abbrev pub sentIn : ℕ → Command → List Event
+sentIn s Nop = []
+sentIn s (Act b r) = sent s (Act b r) ∷ []
+sentIn s (Read b k) = sent s (Read b k) ∷ []
+sentIn s (Wrt b k h) = sent s (Wrt b k h) ∷ []
+sentIn s (Pre b) = sent s (Pre b) ∷ []
+sentIn s Deac = sent s Deac ∷ []
+sentIn s Refr = sent s Refr ∷ []
+sentIn s (Mrs w) = sent s (Mrs w) ∷ []
+
+abbrev pub toldIn : ℕ → Report → List Event
+toldIn s Report.Nothing = []
+toldIn s (Report.Read n h) = told s (Report.Read n h) ∷ []
+toldIn s (Report.Write n) = told s (Report.Write n) ∷ []
+
+abbrev pub freeIn : ℕ → Bool → List Event
+freeIn s true = free s ∷ []
+freeIn s false = []
+
+-- does an action occupy the next slot?
+unfoldable pub occupied : Machine → Bool
+occupied m =
+    isDone (m .stage) && not (isIdle (cond (isIdle (m .action)) (chosenOf m (levelOf (tickOf (m .counters) (m .config .rr) .backlog))) (m .action)))
+
+-- the events of n slots from slot s on, from slot `from` on; `was` says whether an action occupied the slot before; the bus carries `bus`
+unfoldable pub watched : ℕ → ℕ → ℕ → Bool → ℕ → Machine → List Event
+watched zero s from was bus m = []
+watched (suc n) s from was bus m =
+    let now : Slot = slotOf m bus in
+    let later : List Event = watched n (suc s) from (occupied m) bus (now .machine) in
+    cond (leb from s) (freeIn s (was && isIdle (m .action)) ++ (sentIn s (now .command) ++ (toldIn s (now .report) ++ later))) later
+
+-- the machine after the requests of a list; its other calls do not count here
+unfoldable pub requested : Machine → List Call → Machine
+requested m [] = m
+requested m (read a ∷ ks) = requested (readRequestOf m a .machine) ks
+requested m (write a h ∷ ks) = requested (writeRequestOf m a h .machine) ks
+requested m (slot b ∷ ks) = requested m ks
+requested m (backlog ∷ ks) = requested m ks
+
+-- the numbers that reports carry, in order
+abbrev pub numbersOf : List Event → List ℕ
+numbersOf [] = []
+numbersOf (sent s k ∷ l) = numbersOf l
+numbersOf (told s Report.Nothing ∷ l) = numbersOf l
+numbersOf (told s (Report.Read n h) ∷ l) = n ∷ numbersOf l
+numbersOf (told s (Report.Write n) ∷ l) = n ∷ numbersOf l
+numbersOf (free s ∷ l) = numbersOf l

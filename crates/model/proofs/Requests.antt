@@ -1,0 +1,116 @@
+-- Requests: what is answered, seen from outside, and that an accepted one keeps the invariant.
+use Prim.Native.Nat.{ℕ, _+_, _-_, _%_, _≤_, _<_}
+use native.Mathlib.Omega.{arith}
+use mathlib.Core.Path.{_≡_, refl, sym, ap, subst, _∙_}
+use mathlib.Core.Bool.{Bool, true, false, cond}
+use lib.Dec.{eqb, leb}
+use lib.ListN.{length}
+use borrow.Author.Tests.{eq-eqb, ne-eqb, lt-ltb}
+use Rattle.config.specs.declared.Config.{Config}
+use Rattle.config.specs.declared.Geometry.{Geometry}
+use Rattle.config.specs.Accepted.{Accepted}
+use Rattle.address.specs.Map.{capacityOf, addressNumberOf}
+use Rattle.queue.specs.declared.Kind.{Kind}
+use Rattle.queue.specs.declared.Queue.{Queue}
+use Rattle.queue.specs.declared.Request.{Request}
+use Rattle.queue.specs.Places.{acceptOf}
+use Rattle.startup.specs.Start.{isDone}
+use Rattle.sequencer.specs.declared.Machine.{Machine}
+use Rattle.sequencer.specs.declared.Requested.{Requested}
+use Rattle.sequencer.specs.Calls.{lastNumber, recordNumberOf, roomNumberOf, requestNumberOf, queuedRequest, acceptedOf, requestOf}
+use Rattle.model.specs.Flat.{taken, flatAfter}
+use Rattle.model.specs.World.{World, afterRequest}
+use Rattle.model.specs.Condition.{askedNumber, Answered}
+use Rattle.model.proofs.Calls.{Room, request-room, request-cases}
+use Rattle.model.proofs.Standing.{Timed, Whole, sound}
+use Rattle.model.proofs.Invariant.{Ordered}
+use Rattle.model.proofs.OrderQueue.{ordered-request}
+use Rattle.model.proofs.Timing.{timely-arrive, queued-doing}
+
+-- the address's number and the room's, as one sees them from outside
+outside : (g : Geometry) (a room : ℕ)
+    → cond (eqb (addressNumberOf g a) 0) room (addressNumberOf g a) ≡ cond (eqb (a % 2) 1) 4 (cond (leb (capacityOf g) a) 5 room)
+unfolding addressNumberOf
+outside g a room = go (eqb (a % 2) 1) (leb (capacityOf g) a)
+  where
+    go : (odd beyond : Bool) → cond (eqb (cond odd 4 (cond beyond 5 0)) 0) room (cond odd 4 (cond beyond 5 0)) ≡ cond odd 4 (cond beyond 5 room)
+    go true beyond = refl
+    go false true = refl
+    go false false = refl
+
+module _ {c : Config} {w : World} (a : Accepted c) (v : Whole c w) where
+  asked : (address : ℕ) → requestNumberOf (w .machine) address ≡ askedNumber c w address
+  unfolding requestNumberOf askedNumber roomNumberOf
+  asked address =
+      let queued : w .machine .queue .count ≡ w .flat .count - length (w .reported) = omega (arith, v .waiting, v .ordered .counted) in
+      rw (eq-eqb _ _ (sound a v), v .kept .config)
+      (outside (c .geometry) address (cond (leb 8 (w .machine .queue .count)) 6 (cond (leb lastNumber (w .machine .accepted)) 7 0))
+      ∙ rw (queued, v .ordered .counted))
+
+  pub answered : (kind : Kind) (address halfword : ℕ) → Answered c w address (requestOf (w .machine) kind address halfword)
+  unfolding acceptedOf queuedRequest
+  answered kind address halfword =
+      request-cases (w .machine) kind address halfword (Answered c w address)
+      (λ e. record { number = sym e ∙ asked address; accepted = λ z. ap (λ n. n + 1) (v .ordered .counted); refused = λ no′. absurd (no′ refl) })
+      (λ no′. record { number = asked address; accepted = λ e. absurd (no′ e); refused = λ z. (refl, refl) })
+
+-- An accepted request keeps the invariant, with the configuration that the machine holds.
+accept-count : (q : Queue) (r : Request) → q .count < 8 → acceptOf q r .count ≡ q .count + 1
+unfolding acceptOf
+accept-count q r h = rw (lt-ltb (q .count) 8 h)
+
+module _ (w : World) (v : Whole (w .machine .config) w) (kind : Kind) (address halfword : ℕ) (room : Room (w .machine) address) where
+  abbrev c : Config
+  c = w .machine .config
+
+  abbrev r : Request
+  r = queuedRequest (w .machine) kind address halfword
+
+  abbrev next : World
+  next = afterRequest w kind address halfword (acceptedOf (w .machine) r)
+
+  request-ordered : Ordered (c .geometry) (acceptOf (w .machine .queue) r) (w .machine .action) (w .machine .accepted + 1) (w .sdram)
+      (taken (w .flat) kind address halfword) (w .reported)
+  unfolding queuedRequest
+  request-ordered = ordered-request (v .ordered) kind address halfword (room .queued) (room .place)
+
+  request-timed : (b : Bool) → Timed c w b → Timed c next b
+  unfolding afterRequest acceptedOf
+  request-timed false t = record { starting = t .starting; counters = t .counters; none = t .none }
+  request-timed true t =
+      record {
+        reached = t .reached;
+        owed = t .owed;
+        timely =
+            timely-arrive r (v .ordered .tidy) (room .queued)
+            (queued-doing (v .ordered .tidy) (w .sdram) (w .flat) (w .machine .action) (v .ordered .doing)) (t .timely);
+      }
+
+  request-accepted : Whole c next
+  unfolding afterRequest acceptedOf queuedRequest flatAfter
+  request-accepted =
+      record {
+        kept = record { configured = refl; config = refl; agrees = v .kept .agrees; idle = v .kept .idle };
+        ordered = request-ordered;
+        waiting = let e = accept-count (w .machine .queue) r (room .queued) in omega (arith, e, v .waiting);
+        timed = request-timed (isDone (w .machine .stage)) (v .timed);
+      }
+
+-- a refused one changes nothing
+refused : {c : Config} {w : World} → Whole c w → (kind : Kind) (address halfword n : ℕ) → (n ≡ 0 → ⊥)
+    → Whole c (afterRequest w kind address halfword (record { number = n; request = 0; machine = w .machine }))
+unfolding afterRequest flatAfter
+refused v kind address halfword n e = rw (ne-eqb n 0 e) v
+
+request-own : (w : World) → Whole (w .machine .config) w → (kind : Kind) (address halfword : ℕ)
+    → Whole (w .machine .config) (afterRequest w kind address halfword (requestOf (w .machine) kind address halfword))
+request-own w v kind address halfword =
+    request-cases (w .machine) kind address halfword (λ x. Whole (w .machine .config) (afterRequest w kind address halfword x))
+    (λ e. request-accepted w v kind address halfword (request-room (w .machine) address e))
+    (λ e. refused v kind address halfword (requestNumberOf (w .machine) address) e)
+
+pub request-whole : {c : Config} (w : World) → Whole c w → (kind : Kind) (address halfword : ℕ)
+    → Whole c (afterRequest w kind address halfword (requestOf (w .machine) kind address halfword))
+request-whole {c} w v =
+    subst (λ (x : Config). Whole x w → (kind : Kind) (address halfword : ℕ) → Whole x (afterRequest w kind address halfword (requestOf (w .machine) kind address halfword)))
+    (v .kept .config) (request-own w) v

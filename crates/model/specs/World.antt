@@ -1,0 +1,84 @@
+-- Every list of calls on one machine from its accepted configuration on, beside the plain SDRAM and the flat memory.
+use Prim.Native.Nat.{ℕ}
+use mathlib.Core.List.{List, [], _∷_}
+use mathlib.Core.Option.{Option, none, some}
+use Rattle.config.specs.declared.Config.{Config}
+use Rattle.queue.specs.declared.Kind.{Kind}
+use Rattle.service.specs.declared.Report.{Report}
+use Rattle.sequencer.specs.declared.Machine.{Machine}
+use Rattle.sequencer.specs.declared.Requested.{Requested}
+use Rattle.sequencer.specs.declared.Slot.{Slot}
+use Rattle.sequencer.specs.Calls.{readRequestOf, writeRequestOf, slotOf}
+use Rattle.model.specs.Sdram.{Cells, Sdram, startSdram, drivenIn, sdramAfter}
+use Rattle.model.specs.Flat.{Flat, startFlat, flatAfter}
+
+-- a call with its arguments; a slot has the halfword that the bus carries if the SDRAM has none on it
+pub data Call : Type 0 where
+  read : (address : ℕ) → Call
+  write : (address halfword : ℕ) → Call
+  slot : (bus : ℕ) → Call
+  backlog : Call
+
+pub record World : Type 0 where
+  pub machine : Machine
+  pub sdram : Sdram
+  pub flat : Flat
+  -- the numbers that reports carried so far
+  pub reported : List ℕ
+
+-- the machine that configuration c gives, a device that c describes, whatever its cells hold, and the flat memory beside it
+unfoldable pub startWorld : Config → Machine → Cells → World
+startWorld c m first =
+    record {
+      machine = m;
+      sdram = startSdram first;
+      flat = startFlat (c .geometry) first;
+      reported = [];
+    }
+
+-- the halfword that the bus carries in the next slot
+abbrev pub busOr : Option ℕ → ℕ → ℕ
+busOr none any = any
+busOr (some h) any = h
+
+unfoldable pub busOf : World → ℕ → ℕ
+busOf w any = busOr (drivenIn (w .sdram .log .now) (w .sdram .driven)) any
+
+abbrev pub reportedAfter : Report → List ℕ → List ℕ
+reportedAfter Report.Nothing l = l
+reportedAfter (Report.Read n h) l = n ∷ l
+reportedAfter (Report.Write n) l = n ∷ l
+
+-- what the next slot gives
+unfoldable pub slotIn : World → ℕ → Slot
+slotIn w any = slotOf (w .machine) (busOf w any)
+
+unfoldable pub afterSlot : Config → World → Slot → World
+afterSlot c w s =
+    record {
+      machine = s .machine;
+      sdram = sdramAfter c (w .sdram) (s .command);
+      flat = w .flat;
+      reported = reportedAfter (s .report) (w .reported);
+    }
+
+unfoldable pub afterRequest : World → Kind → ℕ → ℕ → Requested → World
+afterRequest w kind address halfword r =
+    record {
+      machine = r .machine;
+      sdram = w .sdram;
+      flat = flatAfter (w .flat) kind address halfword (r .number);
+      reported = w .reported;
+    }
+
+-- one call, handed the record that the one before gave; a reading call leaves everything as it was
+unfoldable pub after : Config → World → Call → World
+after c w (read a) = afterRequest w Kind.Read a 0 (readRequestOf (w .machine) a)
+after c w (write a h) = afterRequest w Kind.Write a h (writeRequestOf (w .machine) a h)
+after c w (slot any) = afterSlot c w (slotIn w any)
+after c w backlog = w
+
+-- all calls of a list, the first one first
+unfoldable pub played : Config → World → List Call → World
+played c w [] = w
+played c w (k ∷ ks) = played c (after c w k) ks

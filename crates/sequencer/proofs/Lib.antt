@@ -1,0 +1,2 @@
+-- Laws of soundness and of the numbers, for this crate's proofs and for callers.
+pub mod Laws

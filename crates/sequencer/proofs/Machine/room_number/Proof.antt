@@ -1,0 +1,20 @@
+-- Each way rewrites by the tests that led there.
+use borrow.Author.Tests.{le-leb, lt-leb}
+use Rattle.sequencer.specs.Calls.{roomNumberOf}
+use Rattle.sequencer.proofs.Machine.room_number.Statement.{statement}
+use Rattle.sequencer.proofs.Machine.room_number.Tie as tie
+
+returns : tie.Need-returns
+unfolding roomNumberOf
+returns c = simp (le-leb _ _ (c .if1 .taken))
+
+returns-2 : tie.Need-returns-2
+unfolding roomNumberOf
+returns-2 c = simp (lt-leb _ _ (c .before .before .if1 .left), le-leb _ _ (c .if2 .taken))
+
+returns-3 : tie.Need-returns-3
+unfolding roomNumberOf
+returns-3 c = simp (lt-leb _ _ (c .before .before .if1 .left), lt-leb _ _ (c .if2 .left))
+
+pub room-number-spec : {M : Type 1} → statement M
+room-number-spec = tie.close (tie.spec returns returns-2 returns-3)

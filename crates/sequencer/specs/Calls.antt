@@ -1,0 +1,99 @@
+-- The calls: for every input the number, the values and the record after it (document 01, "Numbers given back").
+use Prim.Native.Nat.{ℕ, _+_}
+use mathlib.Core.Bool.{true, cond}
+use lib.Dec.{eqb, leb}
+use Rattle.config.specs.declared.Setting.{Setting}
+use Rattle.config.specs.Setting.{settingOf}
+use Rattle.address.specs.Map.{addressNumberOf, cellOf}
+use Rattle.command.specs.declared.Command.the-variants.{Nop}
+use Rattle.queue.specs.declared.Kind.{Kind}
+use Rattle.queue.specs.declared.Kind.the-variants.{Read, Write}
+use Rattle.queue.specs.declared.Request.{Request}
+use Rattle.queue.specs.Places.{acceptOf}
+use Rattle.service.specs.declared.Report.the-variants.{Nothing}
+use Rattle.sequencer.specs.Machine.{blankOf, machineOf, stepOf}
+use Rattle.sequencer.specs.Sound.{soundOf}
+use Rattle.sequencer.specs.declared.Machine.{Machine}
+use Rattle.sequencer.specs.declared.Configured.{Configured}
+use Rattle.sequencer.specs.declared.Requested.{Requested}
+use Rattle.sequencer.specs.declared.Slot.{Slot}
+use Rattle.sequencer.specs.declared.Reading.{Reading}
+
+-- Configuration: 1, 2 or 3 with the blank machine, or 0 with the machine.
+
+unfoldable pub configuredBy : Setting → Configured
+configuredBy s = cond (eqb (s .number) 0) (record { number = 0; machine = machineOf (s .config) }) (record { number = s .number; machine = blankOf })
+
+unfoldable pub configureOf : ℕ → ℕ → ℕ → ℕ → Configured
+configureOf cfg row ref tim = configuredBy (settingOf cfg row ref tim)
+
+-- Every other call: 9 for an unsound record, then 8 for the blank machine.
+unfoldable pub recordNumberOf : Machine → ℕ
+recordNumberOf m = cond (soundOf m) (cond (m .configured) 0 8) 9
+
+-- Requests: then 4 and 5 for the address, 6 for a full queue, 7 for the last number.
+
+-- the most requests that are ever accepted
+abbrev pub lastNumber : ℕ
+lastNumber = 4294967295
+
+unfoldable pub roomNumberOf : Machine → ℕ
+roomNumberOf m = cond (leb 8 (m .queue .count)) 6 (cond (leb lastNumber (m .accepted)) 7 0)
+
+unfoldable pub requestNumberOf : Machine → ℕ → ℕ
+requestNumberOf m address =
+    cond (eqb (recordNumberOf m) 0)
+    (cond (eqb (addressNumberOf (m .config .geometry) address) 0) (roomNumberOf m) (addressNumberOf (m .config .geometry) address))
+    (recordNumberOf m)
+
+-- a request that is accepted has the next number, and goes to the end of the queue
+unfoldable pub queuedRequest : Machine → Kind → ℕ → ℕ → Request
+queuedRequest m kind address halfword =
+    record {
+      number = m .accepted + 1;
+      kind = kind;
+      address = address;
+      cell = cellOf (m .config .geometry) address;
+      halfword = halfword;
+    }
+
+unfoldable pub acceptedOf : Machine → Request → Requested
+acceptedOf m r =
+    record {
+      number = 0;
+      request = r .number;
+      machine = record {
+        configured = true;
+        config = m .config;
+        past = m .past;
+        stage = m .stage;
+        counters = m .counters;
+        run = m .run;
+        queue = acceptOf (m .queue) r;
+        action = m .action;
+        accepted = r .number;
+      };
+    }
+
+unfoldable pub requestOf : Machine → Kind → ℕ → ℕ → Requested
+requestOf m kind address halfword =
+    cond (eqb (requestNumberOf m address) 0)
+    (acceptedOf m (queuedRequest m kind address halfword))
+    (record { number = requestNumberOf m address; request = 0; machine = m })
+
+-- the two calls; a read has no halfword
+abbrev pub readRequestOf : Machine → ℕ → Requested
+readRequestOf m address = requestOf m Read address 0
+
+abbrev pub writeRequestOf : Machine → ℕ → ℕ → Requested
+writeRequestOf m address halfword = requestOf m Write address halfword
+
+-- The slot: refused, its command is NOP and it reports nothing.
+unfoldable pub slotOf : Machine → ℕ → Slot
+slotOf m bus =
+    cond (eqb (recordNumberOf m) 0) (stepOf m bus) (record { number = recordNumberOf m; command = Nop; report = Nothing; machine = m })
+
+-- The reading call: refused, it gives 0.
+unfoldable pub backlogOf : Machine → Reading
+backlogOf m =
+    cond (eqb (recordNumberOf m) 0) (record { number = 0; backlog = m .counters .backlog }) (record { number = recordNumberOf m; backlog = 0 })

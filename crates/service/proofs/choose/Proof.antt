@@ -1,0 +1,22 @@
+-- Rule 1's test, then rule 2 over what the later rules choose.
+use borrow.Author.Needs.{needs}
+use Rattle.service.proofs.choose.Statement.{statement}
+use Rattle.service.proofs.choose.Tie as tie
+use Rattle.service.specs.Choice.{choiceOf}
+
+returns : tie.Need-returns
+unfolding choiceOf
+returns c = simp (c .if1 .taken)
+
+from-rule3-requires : tie.Need-from-rule3-requires
+from-rule3-requires c κs = search needs
+
+access-or-requires : tie.Need-access-or-requires
+access-or-requires c κs = search needs
+
+returns-2 : tie.Need-returns-2
+unfolding choiceOf
+returns-2 c = simp (c .before .before .if1 .left, ← c .before .from-rule3 .ensures, ← c .access-or .ensures)
+
+pub choose-spec : {M : Type 1} → statement M
+choose-spec = tie.close (tie.spec returns from-rule3-requires access-or-requires returns-2)

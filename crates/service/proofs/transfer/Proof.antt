@@ -1,0 +1,29 @@
+-- Each arm knows the kind.
+use borrow.Author.Needs.{needs}
+use Rattle.service.proofs.transfer.Statement.{statement}
+use Rattle.service.proofs.transfer.Tie as tie
+use Rattle.service.specs.Actions.{transferOf}
+
+enum-told : tie.Need-enum-told
+enum-told c = search needs
+
+read-requires : tie.Need-read-requires
+read-requires c κs = search needs
+
+enum-told-2 : tie.Need-enum-told-2
+enum-told-2 c = search needs
+
+write-requires : tie.Need-write-requires
+write-requires c κs = search needs
+
+returns : tie.Need-returns
+unfolding transferOf
+returns c = simp (c .before .enum-told .given .1, ← c .read .ensures)
+
+returns-2 : tie.Need-returns-2
+unfolding transferOf
+returns-2 c = simp (c .before .enum-told2 .given .1, ← c .write .ensures)
+
+pub transfer-spec : {M : Type 1} → statement M
+transfer-spec =
+    tie.close (tie.spec enum-told read-requires enum-told-2 write-requires returns returns-2)

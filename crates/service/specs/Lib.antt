@@ -1,0 +1,4 @@
+-- Document 01, "A service slot".
+pub mod Choice
+pub mod Actions
+pub mod Examples

@@ -1,0 +1,20 @@
+-- The code's test is the definition's.
+use borrow.Author.Needs.{needs}
+use Rattle.startup.proofs.refreshed.Statement.{statement}
+use Rattle.startup.proofs.refreshed.Tie as tie
+use Rattle.startup.specs.Start.{refreshedOf}
+use borrow.Author.Tests.{le-leb, lt-leb}
+
+returns : tie.Need-returns
+unfolding refreshedOf
+returns c = simp (le-leb _ _ (c .if1 .taken))
+
+sub-t3 : tie.Need-sub-t3
+sub-t3 c = search needs
+
+returns-2 : tie.Need-returns-2
+unfolding refreshedOf
+returns-2 c = simp (lt-leb _ _ (c .if1 .left))
+
+pub refreshed-spec : {M : Type 1} → statement M
+refreshed-spec = tie.close (tie.spec returns sub-t3 returns-2)

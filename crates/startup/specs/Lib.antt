@@ -1,0 +1,3 @@
+-- Document 01, "Start".
+pub mod Start
+pub mod Examples
