@@ -20,7 +20,8 @@ use Rattle.startup.specs.Start.{carried, tried, pausedOf, startSlotOf}
 use Rattle.service.specs.Choice.{fromRule5, fromRule3, choiceOf}
 use Rattle.service.specs.Actions.{quiet, sendOf, readOf, writtenOf, writeOf, transferOf, accessOf, takenOf, dataOf, recoveryOf, refreshOf, actOf}
 use Rattle.sequencer.specs.Machine.{blankOf, machineOf, startedOf, servedOf, chosenOf, continuedOf, begunOf, serviceOf, stepOf}
-use Rattle.sequencer.specs.Sound.{shapedOf, countingOf, fitOf, soundOf}
+use Rattle.sequencer.specs.Sound.{countingOf, stagedOf, fitOf, soundOf}
+use Rattle.config.specs.Accepted.{acceptedOf as configAccepted, shapedOf, distancesOf, spannedOf}
 use Rattle.sequencer.specs.Calls.{configuredBy, configureOf, recordNumberOf, roomNumberOf, requestNumberOf, queuedRequest, acceptedOf, requestOf, slotOf}
 use Rattle.device.specs.History.{last, openRow, startLog, fed}
 use Rattle.sequencer.specs.declared.Machine.{Machine}
@@ -71,7 +72,7 @@ pub record ClosedRun : Type 0 where
   pub refreshed : refreshes (machine .config) (world (opening ++ (busy ++ rest))) ≡ 15
 
 pub closed-run : ClosedRun
-unfolding firstService times machine world opening busy rest settingOf reservedAll reservedMap offeredOf checkedOf configOf geometryOf addressNumberOf capacityOf cellOf holdsOf allClosed marksOf rowOf legalOf R2 R7 R12-all R13-all freshOf bankOf agedOf bankSentOf banksSentOf sentOf without emptyOf acceptOf removeOf getOf blockedOf readyOf oldestOf startOf tickOf refreshedOf levelOf start.refreshedOf carried tried pausedOf startSlotOf fromRule5 fromRule3 choiceOf quiet sendOf readOf writtenOf writeOf transferOf accessOf takenOf dataOf recoveryOf refreshOf actOf blankOf machineOf startedOf servedOf chosenOf continuedOf begunOf serviceOf stepOf shapedOf countingOf fitOf soundOf configuredBy configureOf recordNumberOf roomNumberOf requestNumberOf queuedRequest acceptedOf requestOf slotOf last openRow startLog fed stored startSdram cellsAfter drivenAfter takes sdramAfter startFlat taken flatAfter startWorld busOf slotIn afterSlot afterRequest after played
+unfolding firstService times machine world opening busy rest settingOf reservedAll reservedMap offeredOf checkedOf configOf geometryOf addressNumberOf capacityOf cellOf holdsOf allClosed marksOf rowOf legalOf R2 R7 R12-all R13-all freshOf bankOf agedOf bankSentOf banksSentOf sentOf without emptyOf acceptOf removeOf getOf blockedOf readyOf oldestOf startOf tickOf refreshedOf levelOf start.refreshedOf carried tried pausedOf startSlotOf fromRule5 fromRule3 choiceOf quiet sendOf readOf writtenOf writeOf transferOf accessOf takenOf dataOf recoveryOf refreshOf actOf blankOf machineOf startedOf servedOf chosenOf continuedOf begunOf serviceOf stepOf configAccepted shapedOf distancesOf spannedOf countingOf stagedOf fitOf soundOf configuredBy configureOf recordNumberOf roomNumberOf requestNumberOf queuedRequest acceptedOf requestOf slotOf last openRow startLog fed stored startSdram cellsAfter drivenAfter takes sdramAfter startFlat taken flatAfter startWorld busOf slotIn afterSlot afterRequest after played
 closed-run =
     record {
       odd = refl;

@@ -18,10 +18,11 @@ use Rattle.startup.specs.Start.{isDone}
 use Rattle.sequencer.specs.declared.Machine.{Machine}
 use Rattle.sequencer.specs.declared.Requested.{Requested}
 use Rattle.sequencer.specs.Calls.{lastNumber, recordNumberOf, roomNumberOf, requestNumberOf, queuedRequest, acceptedOf, requestOf}
+use Rattle.sequencer.proofs.Laws.{RequestFacts, request-facts}
 use Rattle.model.specs.Flat.{taken, flatAfter}
 use Rattle.model.specs.World.{World, afterRequest}
 use Rattle.model.specs.Condition.{askedNumber, Answered}
-use Rattle.model.proofs.Calls.{Room, request-room, request-cases}
+use Rattle.model.proofs.Calls.{request-cases}
 use Rattle.model.proofs.Standing.{Timed, Whole, sound}
 use Rattle.model.proofs.Invariant.{Ordered}
 use Rattle.model.proofs.OrderQueue.{ordered-request}
@@ -59,7 +60,7 @@ accept-count : (q : Queue) (r : Request) → q .count < 8 → acceptOf q r .coun
 unfolding acceptOf
 accept-count q r h = rw (lt-ltb (q .count) 8 h)
 
-module _ (w : World) (v : Whole (w .machine .config) w) (kind : Kind) (address halfword : ℕ) (room : Room (w .machine) address) where
+module _ (w : World) (v : Whole (w .machine .config) w) (kind : Kind) (address halfword : ℕ) (room : RequestFacts (w .machine) address) where
   abbrev c : Config
   c = w .machine .config
 
@@ -72,7 +73,7 @@ module _ (w : World) (v : Whole (w .machine .config) w) (kind : Kind) (address h
   request-ordered : Ordered (c .geometry) (acceptOf (w .machine .queue) r) (w .machine .action) (w .machine .accepted + 1) (w .sdram)
       (taken (w .flat) kind address halfword) (w .reported)
   unfolding queuedRequest
-  request-ordered = ordered-request (v .ordered) kind address halfword (room .queued) (room .place)
+  request-ordered = ordered-request (v .ordered) kind address halfword (room .room) (room .place)
 
   request-timed : (b : Bool) → Timed c w b → Timed c next b
   unfolding afterRequest acceptedOf
@@ -82,7 +83,7 @@ module _ (w : World) (v : Whole (w .machine .config) w) (kind : Kind) (address h
         reached = t .reached;
         owed = t .owed;
         timely =
-            timely-arrive r (v .ordered .tidy) (room .queued)
+            timely-arrive r (v .ordered .tidy) (room .room)
             (queued-doing (v .ordered .tidy) (w .sdram) (w .flat) (w .machine .action) (v .ordered .doing)) (t .timely);
       }
 
@@ -92,7 +93,7 @@ module _ (w : World) (v : Whole (w .machine .config) w) (kind : Kind) (address h
       record {
         kept = record { configured = refl; config = refl; agrees = v .kept .agrees; idle = v .kept .idle };
         ordered = request-ordered;
-        waiting = let e = accept-count (w .machine .queue) r (room .queued) in omega (arith, e, v .waiting);
+        waiting = let e = accept-count (w .machine .queue) r (room .room) in omega (arith, e, v .waiting);
         timed = request-timed (isDone (w .machine .stage)) (v .timed);
       }
 
@@ -106,7 +107,7 @@ request-own : (w : World) → Whole (w .machine .config) w → (kind : Kind) (ad
     → Whole (w .machine .config) (afterRequest w kind address halfword (requestOf (w .machine) kind address halfword))
 request-own w v kind address halfword =
     request-cases (w .machine) kind address halfword (λ x. Whole (w .machine .config) (afterRequest w kind address halfword x))
-    (λ e. request-accepted w v kind address halfword (request-room (w .machine) address e))
+    (λ e. request-accepted w v kind address halfword (request-facts e))
     (λ e. refused v kind address halfword (requestNumberOf (w .machine) address) e)
 
 pub request-whole : {c : Config} (w : World) → Whole c w → (kind : Kind) (address halfword : ℕ)

@@ -2,7 +2,7 @@
 use Prim.Native.Nat.{ℕ, _+_, _-_, _≤_, _<_, _%_}
 use native.Mathlib.Omega.{arith}
 use mathlib.Core.Path.{_≡_, refl, sym, ap, subst, _∙_}
-use mathlib.Core.Bool.{Bool, true, false, cond}
+use mathlib.Core.Bool.{Bool, true, false, cond, false≢true}
 use mathlib.Core.List.{List}
 use lib.Dec.{leb, lit<}
 use lib.ListN.{length}
@@ -13,6 +13,7 @@ use Rattle.config.specs.declared.Geometry.{Geometry}
 use Rattle.config.specs.Accepted.{Accepted, Shaped}
 use Rattle.address.specs.Map.{cellOf, Holds}
 use Rattle.address.proofs.Laws.{cell-within}
+use Rattle.device.specs.declared.Past.{Past}
 use Rattle.device.specs.Bounds.{Bounded}
 use Rattle.device.specs.View.{View, allClosed}
 use Rattle.device.proofs.Agree.{Alike, same-verdict}
@@ -25,13 +26,15 @@ use Rattle.queue.proofs.Tidy.{tidy-length}
 use Rattle.refresh.specs.declared.Counters.{Counters}
 use Rattle.refresh.specs.Counting.{startOf, expiriesOf}
 use Rattle.refresh.proofs.Counts as counts
+use Rattle.startup.specs.declared.Stage.{Stage}
 use Rattle.startup.specs.Start.{isDone}
+use Rattle.service.specs.Actions.{isIdle}
 use Rattle.service.specs.declared.Action.{Action}
 use Rattle.service.specs.declared.Action.the-variants.{Idle, Access, Data, Turn, Close, Refresh, Recover}
 use Rattle.sequencer.specs.declared.Machine.{Machine}
 use Rattle.sequencer.specs.Sound.{soundOf}
 use Rattle.sequencer.specs.Calls.{recordNumberOf, backlogOf}
-use Rattle.sequencer.proofs.Laws.{SoundFacts, Queued, Inside, facts-sound}
+use Rattle.sequencer.proofs.Laws.{SoundFacts, Queued, Staged, Inside, facts-sound}
 use Rattle.model.specs.Sdram.{Sdram}
 use Rattle.model.specs.Flat.{Flat}
 use Rattle.model.specs.World.{World}
@@ -139,6 +142,32 @@ doing-queued q d f (Recover left) t v = tt
 good-inside : (g : Geometry) (l : List Request) → Each (Good g) l → Inside g l
 good-inside g l e = each-map (λ r h. rw (h .cell) (cell-within g (r .address) (h .ok .1))) e
 
+-- the stage's count, by the initialisation's slots
+staged : (c : Config) (p : Past) (now : ℕ) (x : Stage) (idle : Bool) → idle ≡ true → Starting c p now x → Staged (c .rr) (p .moded) idle x
+staged c p now (Stage.Pause n) idle e s = (e, s .1, s .2)
+staged c p now Stage.Close idle e s = e
+staged c p now (Stage.Refresh n) idle e s = (e, s .least, s .most)
+staged c p now Stage.Mode idle e s = e
+staged c p now Stage.Settle idle e s = e
+staged c p now Stage.Done idle e s = s .moded
+
+done-staged : (rr : ℕ) (moded idle : Bool) (x : Stage) → isDone x ≡ true → moded ≡ true → Staged rr moded idle x
+done-staged rr moded idle (Stage.Pause n) d e = absurd (false≢true d)
+done-staged rr moded idle Stage.Close d e = absurd (false≢true d)
+done-staged rr moded idle (Stage.Refresh n) d e = absurd (false≢true d)
+done-staged rr moded idle Stage.Mode d e = absurd (false≢true d)
+done-staged rr moded idle Stage.Settle d e = absurd (false≢true d)
+done-staged rr moded idle Stage.Done d e = e
+
+whole-staged : {c : Config} {w : World} → Whole c w → Staged (c .rr) (w .machine .past .moded) (isIdle (w .machine .action)) (w .machine .stage)
+whole-staged {c} {w} v = go (isDone (w .machine .stage)) refl (v .timed)
+  where
+    go : (b : Bool) → isDone (w .machine .stage) ≡ b → Timed c w b
+        → Staged (c .rr) (w .machine .past .moded) (isIdle (w .machine .action)) (w .machine .stage)
+    go false e t =
+        staged c (w .machine .past) (w .sdram .log .now) (w .machine .stage) (isIdle (w .machine .action)) (ap isIdle (v .kept .idle e)) (t .starting)
+    go true e t = done-staged (c .rr) (w .machine .past .moded) (isIdle (w .machine .action)) (w .machine .stage) e (t .timely .moded)
+
 -- all banks closed, by both readings
 closed-alike : {v w : View} → Alike v w → allClosed v ≡ allClosed w
 unfolding allClosed
@@ -153,10 +182,11 @@ module _ {c : Config} {w : World} (a : Accepted c) (v : Whole c w) where
       let o = v .ordered in
       let facts : SoundFacts (w .machine) =
       record {
-        shaped = rw (k .config) (a .shaped);
+        accepted = rw (k .config) a;
         counters = rw (k .config) (n .bounded);
         count = o .tidy .within;
         action = doing-queued (w .machine .queue) (w .sdram) (w .flat) (w .machine .action) (o .tidy) (o .doing);
+        staged = rw (k .config) (whole-staged v);
         cells = rw (k .config) (good-inside (c .geometry) (heldOf (w .machine .queue)) (o .good));
       } in
       simp (facts-sound facts, k .configured)

@@ -36,6 +36,7 @@ pub record Quiet (p : Past) : Type 0 where
 pub record Refreshes (c : Config) (p : Past) (now n : ℕ) : Type 0 where
   pub quiet : Quiet p
   pub least : 1 ≤ n
+  pub most : n ≤ 8
   pub one : (c .rfc ≤ p .refr) ⊎ (c .rp ≤ p .close)
   pub next : now + ((c .rp - p .close) + (c .rfc - p .refr)) + n * c .rfc ≡ modeSlot c
 
@@ -52,7 +53,7 @@ pub record Set (c : Config) (p : Past) (ago now : ℕ) : Type 0 where
   pub next : now ≡ modeSlot c + ago
 
 abbrev pub Starting : Config → Past → ℕ → Stage → Type 0
-Starting c p now (Pause n) = (now + n ≡ 8 * c .rr + 1) × (1 ≤ n) × (p ≡ freshOf)
+Starting c p now (Pause n) = (now + n ≡ 8 * c .rr + 1) × (1 ≤ n) × (n ≤ 8 * c .rr) × (p ≡ freshOf)
 Starting c p now Close = (now ≡ 8 * c .rr + 1) × (p ≡ freshOf)
 Starting c p now (Refresh n) = Refreshes c p now n
 Starting c p now Mode = Modes c p now
@@ -146,9 +147,9 @@ one-less n f h = let e : n ≡ (n - 1) + 1 = omega arith in ap (λ x. x * f) e �
 
 -- The stages, one slot on.
 module _ (c : Config) (a : Accepted c) where
-  paused : (now n : ℕ) → now + n ≡ 8 * c .rr + 1 → 1 ≤ n → Starting c freshOf (suc now) (pausedOf n)
+  paused : (now n : ℕ) → now + n ≡ 8 * c .rr + 1 → 1 ≤ n → n ≤ 8 * c .rr → Starting c freshOf (suc now) (pausedOf n)
   unfolding pausedOf
-  paused now n e least = by-test (leb n 1) (λ h. rw h (let m = leb-true n 1 h in (omega arith, refl))) (λ h. rw h (let m = leb-false n 1 h in (omega arith, omega arith, refl)))
+  paused now n e least most = by-test (leb n 1) (λ h. rw h (let m = leb-true n 1 h in (omega arith, refl))) (λ h. rw h (let m = leb-false n 1 h in (omega arith, omega arith, omega arith, refl)))
 
   closing : (now : ℕ) → now ≡ 8 * c .rr + 1 → Refreshes c (sentOf freshOf Deac) (suc now) 8
   unfolding sentOf banksSentOf bankSentOf freshOf agedOf marksOf rowOf
@@ -156,6 +157,7 @@ module _ (c : Config) (a : Accepted c) where
       record {
         quiet = record { closed = closed-deac; unset = omega arith };
         least = omega arith;
+        most = omega arith;
         one = inl (a .rfc-most);
         next = omega (arith, a .rfc-most, a .rp-least);
       }
@@ -181,6 +183,7 @@ module _ (c : Config) (a : Accepted c) where
       record {
         quiet = quiet-refr p (s .quiet);
         least = omega arith;
+        most = omega (arith, s .most);
         one = inr (omega (arith, ages .1, kept .1, a .rp-most));
         next = omega (arith, ages .0, ages .1, kept .0, kept .1, s .next, left, a .rfc-least, a .rp-most);
       }))
@@ -197,6 +200,7 @@ module _ (c : Config) (a : Accepted c) where
       record {
         quiet = quiet-nop p (s .quiet);
         least = s .least;
+        most = s .most;
         one = inl (omega (arith, ages .0, kept, a .rfc-most));
         next = omega (arith, ages .0, ages .1, kept, short, s .next, a .rfc-most, a .rp-most);
       })
@@ -208,6 +212,7 @@ module _ (c : Config) (a : Accepted c) where
       record {
         quiet = quiet-nop p (s .quiet);
         least = s .least;
+        most = s .most;
         one = inr (omega (arith, ages .1, kept, a .rp-most));
         next = omega (arith, ages .0, ages .1, kept, short, s .next, a .rfc-most, a .rp-most);
       })
@@ -251,7 +256,7 @@ module _ (c : Config) (a : Accepted c) where
   pub starting-slot : (p : Past) (now : ℕ) (stage : Stage) → isDone stage ≡ false → Starting c p now stage
       → Starting c (startSlotOf c p stage .past) (suc now) (startSlotOf c p stage .stage)
   unfolding startSlotOf carried tried
-  starting-slot p now (Pause n) e s = rw (s .2, fresh-nop) (paused now n (s .0) (s .1))
+  starting-slot p now (Pause n) e s = rw (s .3, fresh-nop) (paused now n (s .0) (s .1) (s .2))
   starting-slot p now Close e s = rw (s .1, fresh-deac c (a .rfc-most)) (closing now (s .0))
   starting-slot p now (Refresh n) e s =
       by-test (legalOf c (byAges p) Refr) (λ h. rw h (refreshing-sent p now n s h)) (λ h. rw h (refreshing-waits p now n s h))
@@ -261,7 +266,7 @@ module _ (c : Config) (a : Accepted c) where
   starting-slot p now Done e s = absurd (true≢false e)
 
   pub starting-first : Starting c freshOf 1 (firstStage c)
-  starting-first = (omega arith, omega (arith, a .long-enough, a .refresh-span, a .rfc-least), refl)
+  starting-first = (omega arith, omega (arith, a .long-enough, a .refresh-span, a .rfc-least), omega arith, refl)
 
   -- before service the next slot lies before the first service slot; at service's begin it is that slot
   pub starting-below : (p : Past) (now : ℕ) (stage : Stage) → isDone stage ≡ false → Starting c p now stage → now < firstService c

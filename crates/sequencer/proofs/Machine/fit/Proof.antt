@@ -43,9 +43,10 @@ unfolding fitOf
 returns-5 c = simp (← c .before .before .before .before .before .before .before .before .before .before .accepted .ensures, not-false (c .before .before .before .before .before .before .before .before .before .before .accepted .result) (c .before .before .before .before .before .before .before .before .before .if1 .left), ← c .before .before .before .before .before .before .before .counting .ensures, not-false (c .before .before .before .before .before .before .before .counting .result) (c .before .before .before .before .before .before .if2 .left), le-leb _ _ (c .before .before .before .before .before .if3 .left), ← c .before .before .before .before .is-queued .ensures, not-false (c .before .before .before .before .is-queued .result) (c .before .before .before .if4 .left), ← c .before .before .is-idle .ensures, ← c .before .staged .ensures, not-true (c .before .staged .result) (c .if5 .taken))
 
 inside-requires : tie.Need-inside-requires
-inside-requires c κs =
-    (accepted-true _ (sym (c .before .before .before .before .before .before .before .before .before .before .before .accepted .ensures) ∙ not-false (c .before .before .before .before .before .before .before .before .before .before .before .accepted .result) (c .before .before .before .before .before .before .before .before .before .before .if1 .left)) .shaped,
-    c .before .before .before .before .before .before .if3 .left)
+inside-requires c κs = (
+  accepted-true _ (sym (c .before .before .before .before .before .before .before .before .before .before .before .accepted .ensures) ∙ not-false (c .before .before .before .before .before .before .before .before .before .before .before .accepted .result) (c .before .before .before .before .before .before .before .before .before .before .if1 .left)) .shaped,
+  c .before .before .before .before .before .before .if3 .left,
+)
 
 returns-6 : tie.Need-returns-6
 unfolding fitOf
