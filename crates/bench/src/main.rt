@@ -1,0 +1,141 @@
+// Runs slots in a loop with a fixed pseudo-random stream of requests and prints a digest of all answers, commands and reports:
+// the work of bench/baseline.c, on the proved machine (see bench/run).
+use command::Command;
+use libc::STDOUT_FILENO;
+use sequencer::Machine;
+use service::Report;
+
+const SLOTS: u32 = 10000000;
+
+// The machine, the stream and the digest so far.
+struct Bench {
+    machine: Machine,
+    stream: u32,
+    digest: u32,
+}
+
+fn shuffle(x: u32) -> u32 {
+    let a = x ^ (x << 13);
+    let b = a ^ (a >> 17);
+    b ^ (b << 5)
+}
+
+fn mix(digest: u32, value: u32) -> u32 {
+    shuffle(digest ^ value)
+}
+
+// A command's kind, bank, and row, column or mode word, and then its halfword.
+fn mix_command(digest: u32, command: Command) -> u32 {
+    match command {
+        Command::Nop => mix(mix(digest, 0), 0),
+        Command::Act(bank, row) => mix(
+            mix(digest, 16777216 + bank.0 as u32 * 65536 + row.0 as u32),
+            0,
+        ),
+        Command::Read(bank, column) => mix(
+            mix(
+                digest,
+                2 * 16777216 + bank.0 as u32 * 65536 + column.0 as u32,
+            ),
+            0,
+        ),
+        Command::Wrt(bank, column, halfword) => mix(
+            mix(
+                digest,
+                3 * 16777216 + bank.0 as u32 * 65536 + column.0 as u32,
+            ),
+            halfword as u32,
+        ),
+        Command::Pre(bank) => mix(mix(digest, 4 * 16777216 + bank.0 as u32 * 65536), 0),
+        Command::Deac => mix(mix(digest, 5 * 16777216), 0),
+        Command::Refr => mix(mix(digest, 6 * 16777216), 0),
+        Command::Mrs(word) => mix(mix(digest, 7 * 16777216 + word as u32), 0),
+    }
+}
+
+fn mix_report(digest: u32, report: Report) -> u32 {
+    match report {
+        Report::Nothing => mix(mix(digest, 0), 0),
+        Report::Read(number, halfword) => mix(mix(digest, 65536 + halfword as u32), number),
+        Report::Write(number) => mix(mix(digest, 2 * 65536), number),
+    }
+}
+
+impl Bench {
+    // A request in one slot of eight on the average.
+    fn ask(self) -> Bench {
+        let x = self.stream;
+        if x % 8 != 0 {
+            return self;
+        }
+        let address = x / 256 % 64 * 2048 + x / 16384 % 1024 * 2;
+        if x / 8 % 2 == 1 {
+            let r = self.machine.write(address, (x / 65536) as u16);
+            let machine = r.machine;
+            return Bench {
+                machine,
+                stream: x,
+                digest: mix(mix(self.digest, r.number as u32), r.request),
+            };
+        }
+        let r = self.machine.read(address);
+        let machine = r.machine;
+        Bench {
+            machine,
+            stream: x,
+            digest: mix(mix(self.digest, r.number as u32), r.request),
+        }
+    }
+
+    fn slot(self) -> Bench {
+        let x = self.stream;
+        let s = self.machine.slot((x / 65536) as u16);
+        let machine = s.machine;
+        let command = s.command;
+        let report = s.report;
+        let a = mix(self.digest, s.number as u32);
+        let b = mix_command(a, command);
+        Bench {
+            machine,
+            stream: x,
+            digest: mix_report(b, report),
+        }
+    }
+
+    fn next(self) -> Bench {
+        let machine = self.machine;
+        let b = Bench {
+            machine,
+            stream: shuffle(self.stream),
+            digest: self.digest,
+        };
+        b.ask().slot()
+    }
+}
+
+fn run() -> Bench {
+    let made = Machine::configure(0x4620, 4, 136, 0x42215810);
+    let machine = made.machine;
+    let mut b = Bench {
+        machine,
+        stream: 2463534242,
+        digest: 1,
+    };
+    let mut n: u32 = 0;
+    while n < SLOTS {
+        b = b.next();
+        n += 1;
+    }
+    b
+}
+
+fn main() {
+    let b = run();
+    io::write_all(STDOUT_FILENO, b"slots ");
+    io::print_decimal(STDOUT_FILENO, SLOTS as u64);
+    io::write_all(STDOUT_FILENO, b" accepted ");
+    io::print_decimal(STDOUT_FILENO, b.machine.accepted as u64);
+    io::write_all(STDOUT_FILENO, b" digest ");
+    io::print_decimal(STDOUT_FILENO, b.digest as u64);
+    io::write_all(STDOUT_FILENO, b"\n");
+}
