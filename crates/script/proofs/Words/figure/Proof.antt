@@ -1,0 +1,14 @@
+use borrow.Author.Needs.{needs}
+use Rattle.script.proofs.Words.figure.Statement.{statement}
+use Rattle.script.proofs.Words.figure.Tie as tie
+use Rattle.script.specs.Line.{figureOf}
+
+take-requires : tie.Need-take-requires
+take-requires c κs = search needs
+
+returns : tie.Need-returns
+unfolding figureOf
+returns c = simp (← c .before .take .ensures)
+
+pub figure-spec : {M : Type 1} → statement M
+figure-spec = tie.close (tie.spec take-requires returns)

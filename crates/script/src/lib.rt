@@ -1,0 +1,681 @@
+// Owns REPLAY.md's lines: a script's line to a call, byte by byte, and an answer to the line that is written for it.
+use address::Bank;
+use address::Cell;
+use address::Column;
+use address::Row;
+use address::ToAddress;
+use address::ToCell;
+use command::Command;
+use service::Report;
+use text::Text;
+ghost use mathlib.Core.Path.{_≡_};
+ghost use Prim.Native.Nat.{_<_};
+ghost use Rattle.script.specs.Number.{digitOf, joinedOf, moreDecimal, moreHex, firstByte, afterZero, numberOf, valueOf};
+ghost use Rattle.script.specs.Line.{
+  noWords,
+  ruinedOf,
+  letterOf,
+  figureOf,
+  storedOf,
+  nextOf,
+  wordsOf,
+  configCall,
+  readCall,
+  writeCall,
+  slotCall,
+  backlogCall,
+  cellCall,
+  addressCall,
+  callOf,
+  noLine,
+  takeOf,
+  lineCall,
+};
+ghost use Rattle.script.specs.Output.{
+  andWord,
+  andNumber,
+  oneOf,
+  twoOf,
+  commandOf,
+  reportOf,
+  configLine,
+  readLine,
+  writeLine,
+  slotLine,
+  backlogLine,
+  cellLine,
+  addressLine,
+  errorLine,
+};
+
+// One line of a script.
+pub enum Call {
+    // An empty line or a comment.
+    Nothing,
+    // A line that is no call.
+    Wrong,
+    Config(u32, u32, u32, u32),
+    Read(u32),
+    Write(u32, u16),
+    Slot(u16),
+    Backlog,
+    // The standalone map: CFG, ROW and an address, or a cell.
+    Cell(u32, u32, u32),
+    Address(u32, u32, Cell),
+}
+
+// A number, as far as it has been read.
+pub enum Number {
+    // No byte.
+    Empty,
+    // A single 0, with which 0x begins.
+    Zero,
+    Decimal(u32),
+    // 0x and no digit.
+    Prefix,
+    Hex(u32),
+    // No number of 32 bits.
+    Wrong,
+}
+
+// The words of a line, as far as they have been read.
+pub struct Words {
+    // Is it known that the line is no call?
+    pub wrong: bool,
+    // The first word, in the form that Text::word takes.
+    pub name: u64,
+    // Which word is under way, 0 for the name.
+    pub at: usize,
+    // The number under way, and the numbers before it.
+    pub number: Number,
+    pub given: [u32; 5],
+}
+
+// A line, as far as it has been read.
+pub struct Line {
+    // How many bytes; 256 for more than 255.
+    pub size: u16,
+    // Does it begin with #?
+    pub comment: bool,
+    pub words: Words,
+}
+
+// Stands for no number: more than 32 bits hold.
+const NONE: u64 = 4294967296;
+
+// The words of REPLAY.md, in the form that Text::word takes.
+const CONFIG: u64 = 0x636f6e666967;
+
+const READ: u64 = 0x72656164;
+
+const WRITE: u64 = 0x7772697465;
+
+const SLOT: u64 = 0x736c6f74;
+
+const BACKLOG: u64 = 0x6261636b6c6f67;
+
+const CELL: u64 = 0x63656c6c;
+
+const ADDRESS: u64 = 0x61646472657373;
+
+const ERROR: u64 = 0x6572726f72;
+
+const NOP: u64 = 0x4e4f50;
+
+const ACT: u64 = 0x414354;
+
+const READ_COMMAND: u64 = 0x52454144;
+
+const WRT: u64 = 0x575254;
+
+const PRE: u64 = 0x505245;
+
+const DEAC: u64 = 0x44454143;
+
+const REFR: u64 = 0x52454652;
+
+const MRS: u64 = 0x4d5253;
+
+// The value of a digit, and 16 for a byte that is none.
+fn digit(byte: u8) -> u8
+    ensures { λ r. ⌜ r ≡ digitOf byte ⌝ }
+{
+    if byte < 48 {
+        return 16;
+    }
+    if byte < 58 {
+        return byte - 48;
+    }
+    if byte < 65 {
+        return 16;
+    }
+    if byte < 71 {
+        return byte - 55;
+    }
+    if byte < 97 {
+        return 16;
+    }
+    if byte < 103 {
+        return byte - 87;
+    }
+    16
+}
+
+// `high` and a digit of the base; NONE where the byte is no such digit, or 32 bits do not hold the sum.
+fn joined(high: u64, base: u8, byte: u8) -> u64
+    requires { ⌜ high < 1099511627776 ⌝ }
+    ensures { λ r. ⌜ r ≡ joinedOf high base byte ⌝ }
+{
+    let d = digit(byte);
+    if base <= d {
+        return NONE;
+    }
+    let n = high + d as u64;
+    if NONE <= n {
+        return NONE;
+    }
+    n
+}
+
+// A decimal number with one byte more.
+fn decimal(value: u32, byte: u8) -> Number
+    ensures { λ r. ⌜ r ≡ moreDecimal value byte ⌝ }
+{
+    let n = joined(value as u64 * 10, 10, byte);
+    if NONE <= n {
+        return Number::Wrong;
+    }
+    Number::Decimal(n as u32)
+}
+
+// A hexadecimal number with one byte more.
+fn hex(value: u32, byte: u8) -> Number
+    ensures { λ r. ⌜ r ≡ moreHex value byte ⌝ }
+{
+    let n = joined(value as u64 * 16, 16, byte);
+    if NONE <= n {
+        return Number::Wrong;
+    }
+    Number::Hex(n as u32)
+}
+
+fn first_byte(byte: u8) -> Number
+    ensures { λ r. ⌜ r ≡ firstByte byte ⌝ }
+{
+    if byte == 48 {
+        return Number::Zero;
+    }
+    decimal(0, byte)
+}
+
+fn after_zero(byte: u8) -> Number
+    ensures { λ r. ⌜ r ≡ afterZero byte ⌝ }
+{
+    if byte == 120 {
+        return Number::Prefix;
+    }
+    decimal(0, byte)
+}
+
+impl Number {
+    // One byte more.
+    pub fn take(self, byte: u8) -> Number
+        ensures { λ r. ⌜ r ≡ numberOf self byte ⌝ }
+    {
+        match self {
+            Number::Empty => first_byte(byte),
+            Number::Zero => after_zero(byte),
+            Number::Decimal(value) => decimal(value, byte),
+            Number::Prefix => hex(0, byte),
+            Number::Hex(value) => hex(value, byte),
+            Number::Wrong => Number::Wrong,
+        }
+    }
+
+    // Its value, where the word ends here; NONE where it is no number.
+    pub fn value(self) -> u64
+        ensures { λ r. ⌜ r ≡ valueOf self ⌝ }
+    {
+        match self {
+            Number::Empty => NONE,
+            Number::Zero => 0,
+            Number::Decimal(value) => value as u64,
+            Number::Prefix => NONE,
+            Number::Hex(value) => value as u64,
+            Number::Wrong => NONE,
+        }
+    }
+}
+
+impl Words {
+    // No byte yet.
+    pub fn none() -> Words
+        ensures { λ r. ⌜ r ≡ noWords ⌝ }
+    {
+        let given = [0; 5];
+        Words {
+            wrong: false,
+            name: 0,
+            at: 0,
+            number: Number::Empty,
+            given,
+        }
+    }
+
+    // The line is no call.
+    fn ruined(self) -> Words
+        ensures { λ r. ⌜ r ≡ ruinedOf self ⌝ }
+    {
+        let given = self.given;
+        Words {
+            wrong: true,
+            name: self.name,
+            at: self.at,
+            number: Number::Wrong,
+            given,
+        }
+    }
+
+    // One byte more of the name.
+    fn letter(self, byte: u8) -> Words
+        ensures { λ r. ⌜ r ≡ letterOf self byte ⌝ }
+    {
+        if byte < 97 {
+            return self.ruined();
+        }
+        if 122 < byte {
+            return self.ruined();
+        }
+        // It has eight letters already.
+        if 72057594037927935 < self.name {
+            return self.ruined();
+        }
+        let number = self.number;
+        let given = self.given;
+        Words {
+            wrong: self.wrong,
+            name: self.name * 256 + byte as u64,
+            at: self.at,
+            number,
+            given,
+        }
+    }
+
+    // One byte more of a number.
+    fn figure(self, byte: u8) -> Words
+        ensures { λ r. ⌜ r ≡ figureOf self byte ⌝ }
+    {
+        let before = self.number;
+        let number = before.take(byte);
+        let given = self.given;
+        Words {
+            wrong: self.wrong,
+            name: self.name,
+            at: self.at,
+            number,
+            given,
+        }
+    }
+
+    // The word under way was a number of this value, and the next one begins.
+    fn stored(self, value: u32) -> Words
+        ensures { λ r. ⌜ r ≡ storedOf self value ⌝ }
+    {
+        let at = self.at;
+        if at < 1 {
+            return self.ruined();
+        }
+        if 5 < at {
+            return self.ruined();
+        }
+        let mut given = self.given;
+        given[at - 1] = value;
+        Words {
+            wrong: self.wrong,
+            name: self.name,
+            at: at + 1,
+            number: Number::Empty,
+            given,
+        }
+    }
+
+    // The word under way has ended.
+    pub fn next(self) -> Words
+        ensures { λ r. ⌜ r ≡ nextOf self ⌝ }
+    {
+        if self.at == 0 {
+            let given = self.given;
+            return Words {
+                wrong: self.wrong,
+                name: self.name,
+                at: 1,
+                number: Number::Empty,
+                given,
+            };
+        }
+        let number = self.number;
+        let value = number.value();
+        if NONE <= value {
+            return self.ruined();
+        }
+        self.stored(value as u32)
+    }
+
+    // One byte more.
+    pub fn take(self, byte: u8) -> Words
+        ensures { λ r. ⌜ r ≡ wordsOf self byte ⌝ }
+    {
+        if byte == 32 {
+            return self.next();
+        }
+        if self.at == 0 {
+            return self.letter(byte);
+        }
+        self.figure(byte)
+    }
+
+    fn config(self) -> Call
+        ensures { λ r. ⌜ r ≡ configCall self ⌝ }
+    {
+        let n = self.given;
+        if self.at == 5 {
+            return Call::Config(n[0], n[1], n[2], n[3]);
+        }
+        Call::Wrong
+    }
+
+    fn read(self) -> Call
+        ensures { λ r. ⌜ r ≡ readCall self ⌝ }
+    {
+        let n = self.given;
+        if self.at == 2 {
+            return Call::Read(n[0]);
+        }
+        Call::Wrong
+    }
+
+    fn write(self) -> Call
+        ensures { λ r. ⌜ r ≡ writeCall self ⌝ }
+    {
+        let n = self.given;
+        let halfword = n[1];
+        if 65535 < halfword {
+            return Call::Wrong;
+        }
+        if self.at == 3 {
+            return Call::Write(n[0], halfword as u16);
+        }
+        Call::Wrong
+    }
+
+    fn slot(self) -> Call
+        ensures { λ r. ⌜ r ≡ slotCall self ⌝ }
+    {
+        let n = self.given;
+        let halfword = n[0];
+        if 65535 < halfword {
+            return Call::Wrong;
+        }
+        if self.at == 2 {
+            return Call::Slot(halfword as u16);
+        }
+        Call::Wrong
+    }
+
+    fn backlog(self) -> Call
+        ensures { λ r. ⌜ r ≡ backlogCall self ⌝ }
+    {
+        if self.at == 1 {
+            return Call::Backlog;
+        }
+        Call::Wrong
+    }
+
+    fn cell(self) -> Call
+        ensures { λ r. ⌜ r ≡ cellCall self ⌝ }
+    {
+        let n = self.given;
+        if self.at == 4 {
+            return Call::Cell(n[0], n[1], n[2]);
+        }
+        Call::Wrong
+    }
+
+    fn address(self) -> Call
+        ensures { λ r. ⌜ r ≡ addressCall self ⌝ }
+    {
+        let n = self.given;
+        let bank = n[2];
+        let row = n[3];
+        let column = n[4];
+        if 255 < bank {
+            return Call::Wrong;
+        }
+        if 65535 < row {
+            return Call::Wrong;
+        }
+        if 65535 < column {
+            return Call::Wrong;
+        }
+        if self.at == 6 {
+            let cell = Cell {
+                bank: Bank(bank as u8),
+                row: Row(row as u16),
+                column: Column(column as u16),
+            };
+            return Call::Address(n[0], n[1], cell);
+        }
+        Call::Wrong
+    }
+
+    // The call that the words make, the last one ended.
+    pub fn call(self) -> Call
+        ensures { λ r. ⌜ r ≡ callOf self ⌝ }
+    {
+        if self.wrong {
+            return Call::Wrong;
+        }
+        if self.name == CONFIG {
+            return self.config();
+        }
+        if self.name == READ {
+            return self.read();
+        }
+        if self.name == WRITE {
+            return self.write();
+        }
+        if self.name == SLOT {
+            return self.slot();
+        }
+        if self.name == BACKLOG {
+            return self.backlog();
+        }
+        if self.name == CELL {
+            return self.cell();
+        }
+        if self.name == ADDRESS {
+            return self.address();
+        }
+        Call::Wrong
+    }
+}
+
+impl Line {
+    // No byte yet.
+    pub fn empty() -> Line
+        ensures { λ r. ⌜ r ≡ noLine ⌝ }
+    {
+        let words = Words::none();
+        Line {
+            size: 0,
+            comment: false,
+            words,
+        }
+    }
+
+    // One byte more, which is no line feed.
+    pub fn take(self, byte: u8) -> Line
+        ensures { λ r. ⌜ r ≡ takeOf self byte ⌝ }
+    {
+        let before = self.words;
+        let words = before.take(byte);
+        if 255 <= self.size {
+            return Line {
+                size: 256,
+                comment: self.comment,
+                words,
+            };
+        }
+        if self.size == 0 {
+            return Line {
+                size: 1,
+                comment: byte == 35,
+                words,
+            };
+        }
+        Line {
+            size: self.size + 1,
+            comment: self.comment,
+            words,
+        }
+    }
+
+    // The call that the line is, where it ends here.
+    pub fn call(self) -> Call
+        ensures { λ r. ⌜ r ≡ lineCall self ⌝ }
+    {
+        if self.size == 0 {
+            return Call::Nothing;
+        }
+        if self.comment {
+            return Call::Nothing;
+        }
+        if 255 < self.size {
+            return Call::Wrong;
+        }
+        let words = self.words;
+        let all = words.next();
+        all.call()
+    }
+}
+
+// A word with a space before it.
+fn and_word(text: Text, letters: u64) -> Text
+    ensures { λ r. ⌜ r ≡ andWord text letters ⌝ }
+{
+    text.byte(32).word(letters)
+}
+
+// A number with a space before it.
+fn and_number(text: Text, n: u64) -> Text
+    ensures { λ r. ⌜ r ≡ andNumber text n ⌝ }
+{
+    text.byte(32).decimal(n)
+}
+
+// A word and a number.
+fn one(letters: u64, a: u64) -> Text
+    ensures { λ r. ⌜ r ≡ oneOf letters a ⌝ }
+{
+    and_number(Text::empty().word(letters), a)
+}
+
+// A line of a word and two numbers.
+fn two(letters: u64, a: u64, b: u64) -> Text
+    ensures { λ r. ⌜ r ≡ twoOf letters a b ⌝ }
+{
+    and_number(one(letters, a), b).byte(10)
+}
+
+fn and_command(text: Text, command: Command) -> Text
+    ensures { λ r. ⌜ r ≡ commandOf text command ⌝ }
+{
+    match command {
+        Command::Nop => and_word(text, NOP),
+        Command::Act(bank, row) => and_number(
+            and_number(and_word(text, ACT), bank.0 as u64),
+            row.0 as u64,
+        ),
+        Command::Read(bank, column) => and_number(
+            and_number(and_word(text, READ_COMMAND), bank.0 as u64),
+            column.0 as u64,
+        ),
+        Command::Wrt(bank, column, halfword) => {
+            and_number(
+                and_number(
+                    and_number(and_word(text, WRT), bank.0 as u64),
+                    column.0 as u64,
+                ),
+                halfword as u64,
+            )
+        }
+        Command::Pre(bank) => and_number(and_word(text, PRE), bank.0 as u64),
+        Command::Deac => and_word(text, DEAC),
+        Command::Refr => and_word(text, REFR),
+        Command::Mrs(word) => and_number(and_word(text, MRS), word as u64),
+    }
+}
+
+fn and_report(text: Text, report: Report) -> Text
+    ensures { λ r. ⌜ r ≡ reportOf text report ⌝ }
+{
+    match report {
+        Report::Nothing => text.byte(32).byte(45),
+        Report::Read(number, halfword) => and_number(
+            and_number(and_word(text, READ), number as u64),
+            halfword as u64,
+        ),
+        Report::Write(number) => and_number(and_word(text, WRITE), number as u64),
+    }
+}
+
+pub fn config_line(number: u8) -> Text
+    ensures { λ r. ⌜ r ≡ configLine number ⌝ }
+{
+    one(CONFIG, number as u64).byte(10)
+}
+
+pub fn read_line(number: u8, request: u32) -> Text
+    ensures { λ r. ⌜ r ≡ readLine number request ⌝ }
+{
+    two(READ, number as u64, request as u64)
+}
+
+pub fn write_line(number: u8, request: u32) -> Text
+    ensures { λ r. ⌜ r ≡ writeLine number request ⌝ }
+{
+    two(WRITE, number as u64, request as u64)
+}
+
+pub fn slot_line(number: u8, command: Command, report: Report) -> Text
+    ensures { λ r. ⌜ r ≡ slotLine number command report ⌝ }
+{
+    and_report(and_command(one(SLOT, number as u64), command), report).byte(10)
+}
+
+pub fn backlog_line(number: u8, backlog: u8) -> Text
+    ensures { λ r. ⌜ r ≡ backlogLine number backlog ⌝ }
+{
+    two(BACKLOG, number as u64, backlog as u64)
+}
+
+pub fn cell_line(answer: ToCell) -> Text
+    ensures { λ r. ⌜ r ≡ cellLine answer ⌝ }
+{
+    let cell = answer.cell;
+    let bank = and_number(one(CELL, answer.number as u64), cell.bank.0 as u64);
+    and_number(and_number(bank, cell.row.0 as u64), cell.column.0 as u64).byte(10)
+}
+
+pub fn address_line(answer: ToAddress) -> Text
+    ensures { λ r. ⌜ r ≡ addressLine answer ⌝ }
+{
+    two(ADDRESS, answer.number as u64, answer.address as u64)
+}
+
+// For a line that is no call.
+pub fn error_line(line: u64) -> Text
+    ensures { λ r. ⌜ r ≡ errorLine line ⌝ }
+{
+    one(ERROR, line).byte(10)
+}
