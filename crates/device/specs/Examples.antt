@@ -117,11 +117,17 @@ tries =
     ∷ try 48 (act 3 1) false  -- R5, after a DEAC while it was closed
     ∷ try 49 (act 0 6) false  -- R6
     ∷ try 50 (act 0 6) true  -- R6 kept
+    ∷ try 52 (act 3 1) true
+    ∷ try 53 (act 1 7) false  -- R7, after bank 3
+    ∷ try 55 (wrt 3 0) true
     ∷ try 56 (pre 0) true
-    ∷ try 58 (Mrs 48) false  -- R15
-    ∷ try 59 (Mrs 48) true  -- R15 kept, after a PRE
-    ∷ try 60 Deac false  -- R2, after MRS
-    ∷ try 61 Deac true  -- R2 kept
+    ∷ try 58 Deac false  -- R13, in bank 3
+    ∷ try 59 (Mrs 48) false  -- R14, by bank 3
+    ∷ try 60 (pre 3) true
+    ∷ try 62 (Mrs 48) false  -- R15
+    ∷ try 63 (Mrs 48) true  -- R15 kept, after a PRE
+    ∷ try 64 Deac false  -- R2, after MRS
+    ∷ try 65 Deac true  -- R2 kept
     ∷ []
 
 -- a device and what is tried on it

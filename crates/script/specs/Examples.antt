@@ -56,8 +56,10 @@ use Rattle.script.specs.Line.{
 use Rattle.script.specs.Output.{
   andWord,
   andNumber,
-  oneOf,
-  twoOf,
+  andOne,
+  andTwo,
+  begunOf,
+  pairLine,
   commandOf,
   reportOf,
   configLine,
@@ -173,5 +175,5 @@ answers =
     ∷ []
 
 written-lines : map (λ (a : Answer). saidOf (a .answer)) answers ≡ map (λ (a : Answer). a .text) answers
-unfolding emptyOf byteOf spelledOf wordOf decimalOf andWord andNumber oneOf twoOf commandOf reportOf configLine readLine writeLine slotLine backlogLine cellLine addressLine errorLine
+unfolding emptyOf byteOf spelledOf wordOf decimalOf andWord andNumber andOne andTwo begunOf pairLine commandOf reportOf configLine readLine writeLine slotLine backlogLine cellLine addressLine errorLine
 written-lines = refl

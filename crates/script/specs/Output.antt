@@ -15,52 +15,64 @@ andWord t w = wordOf (byteOf t 32) w
 unfoldable pub andNumber : Text → ℕ → Text
 andNumber t n = decimalOf (byteOf t 32) n
 
-unfoldable pub oneOf : ℕ → ℕ → Text
-oneOf w a = andNumber (wordOf emptyOf w) a
+unfoldable pub andOne : Text → ℕ → ℕ → Text
+andOne t w a = andNumber (andWord t w) a
 
-unfoldable pub twoOf : ℕ → ℕ → ℕ → Text
-twoOf w a b = byteOf (andNumber (oneOf w a) b) 10
+unfoldable pub andTwo : Text → ℕ → ℕ → ℕ → Text
+andTwo t w a b = andNumber (andOne t w a) b
 
+-- COMMAND
 unfoldable pub commandOf : Text → Command → Text
 commandOf t Nop = andWord t (letters "NOP")
-commandOf t (Act b r) = andNumber (andNumber (andWord t (letters "ACT")) (b .0)) (r .0)
-commandOf t (Read b c) = andNumber (andNumber (andWord t (letters "READ")) (b .0)) (c .0)
-commandOf t (Wrt b c h) = andNumber (andNumber (andNumber (andWord t (letters "WRT")) (b .0)) (c .0)) h
-commandOf t (Pre b) = andNumber (andWord t (letters "PRE")) (b .0)
+commandOf t (Act b r) = andTwo t (letters "ACT") (b .0) (r .0)
+commandOf t (Read b c) = andTwo t (letters "READ") (b .0) (c .0)
+commandOf t (Wrt b c h) = andNumber (andTwo t (letters "WRT") (b .0) (c .0)) h
+commandOf t (Pre b) = andOne t (letters "PRE") (b .0)
 commandOf t Deac = andWord t (letters "DEAC")
 commandOf t Refr = andWord t (letters "REFR")
-commandOf t (Mrs w) = andNumber (andWord t (letters "MRS")) w
+commandOf t (Mrs w) = andOne t (letters "MRS") w
 
+-- REPORT
 unfoldable pub reportOf : Text → Report → Text
 reportOf t Nothing = byteOf (byteOf t 32) 45
-reportOf t (ReadDone n h) = andNumber (andNumber (andWord t (letters "read")) n) h
-reportOf t (WriteDone n) = andNumber (andWord t (letters "write")) n
+reportOf t (ReadDone n h) = andTwo t (letters "read") n h
+reportOf t (WriteDone n) = andOne t (letters "write") n
+
+-- the beginning of a line: the call's word and a number
+unfoldable pub begunOf : ℕ → ℕ → Text
+begunOf w n = andNumber (wordOf emptyOf w) n
+
+-- a line of a word and two numbers
+unfoldable pub pairLine : ℕ → ℕ → ℕ → Text
+pairLine w a b = byteOf (andNumber (begunOf w a) b) 10
+
+-- The lines, each with the numbers that its call answers.
 
 unfoldable pub configLine : ℕ → Text
-configLine n = byteOf (oneOf (letters "config") n) 10
+configLine n = byteOf (begunOf (letters "config") n) 10
 
 unfoldable pub readLine : ℕ → ℕ → Text
-readLine n r = twoOf (letters "read") n r
+readLine n r = pairLine (letters "read") n r
 
 unfoldable pub writeLine : ℕ → ℕ → Text
-writeLine n r = twoOf (letters "write") n r
+writeLine n r = pairLine (letters "write") n r
 
 unfoldable pub slotLine : ℕ → Command → Report → Text
-slotLine n c r = byteOf (reportOf (commandOf (oneOf (letters "slot") n) c) r) 10
+slotLine n c r = byteOf (reportOf (commandOf (begunOf (letters "slot") n) c) r) 10
 
 unfoldable pub backlogLine : ℕ → ℕ → Text
-backlogLine n b = twoOf (letters "backlog") n b
+backlogLine n b = pairLine (letters "backlog") n b
 
 unfoldable pub cellLine : ToCell → Text
 cellLine a =
     byteOf
     (andNumber
-    (andNumber (andNumber (oneOf (letters "cell") (a .number)) (a .cell .bank .0)) (a .cell .row .0))
+    (andNumber (andNumber (begunOf (letters "cell") (a .number)) (a .cell .bank .0)) (a .cell .row .0))
     (a .cell .column .0))
     10
 
 unfoldable pub addressLine : ToAddress → Text
-addressLine a = twoOf (letters "address") (a .number) (a .address)
+addressLine a = pairLine (letters "address") (a .number) (a .address)
 
 unfoldable pub errorLine : ℕ → Text
-errorLine n = byteOf (oneOf (letters "error") n) 10
+errorLine n = byteOf (begunOf (letters "error") n) 10

@@ -34,8 +34,10 @@ ghost use Rattle.script.specs.Line.{
 ghost use Rattle.script.specs.Output.{
   andWord,
   andNumber,
-  oneOf,
-  twoOf,
+  andOne,
+  andTwo,
+  begunOf,
+  pairLine,
   commandOf,
   reportOf,
   configLine,
@@ -219,7 +221,7 @@ fn after_zero(byte: u8) -> Number
 
 impl Number {
     // One byte more.
-    pub fn take(self, byte: u8) -> Number
+    fn take(self, byte: u8) -> Number
         ensures { λ r. ⌜ r ≡ numberOf self byte ⌝ }
     {
         match self {
@@ -233,7 +235,7 @@ impl Number {
     }
 
     // Its value, where the word ends here; NONE where it is no number.
-    pub fn value(self) -> u64
+    fn value(self) -> u64
         ensures { λ r. ⌜ r ≡ valueOf self ⌝ }
     {
         match self {
@@ -249,7 +251,7 @@ impl Number {
 
 impl Words {
     // No byte yet.
-    pub fn none() -> Words
+    fn none() -> Words
         ensures { λ r. ⌜ r ≡ noWords ⌝ }
     {
         let given = [0; 5];
@@ -340,7 +342,7 @@ impl Words {
     }
 
     // The word under way has ended.
-    pub fn next(self) -> Words
+    fn next(self) -> Words
         ensures { λ r. ⌜ r ≡ nextOf self ⌝ }
     {
         if self.at == 0 {
@@ -362,7 +364,7 @@ impl Words {
     }
 
     // One byte more.
-    pub fn take(self, byte: u8) -> Words
+    fn take(self, byte: u8) -> Words
         ensures { λ r. ⌜ r ≡ wordsOf self byte ⌝ }
     {
         if byte == 32 {
@@ -469,7 +471,7 @@ impl Words {
     }
 
     // The call that the words make, the last one ended.
-    pub fn call(self) -> Call
+    fn call(self) -> Call
         ensures { λ r. ⌜ r ≡ callOf self ⌝ }
     {
         if self.wrong {
@@ -573,18 +575,18 @@ fn and_number(text: Text, n: u64) -> Text
     text.byte(32).decimal(n)
 }
 
-// A word and a number.
-fn one(letters: u64, a: u64) -> Text
-    ensures { λ r. ⌜ r ≡ oneOf letters a ⌝ }
+// A word and a number, each with a space before it.
+fn and_one(text: Text, letters: u64, a: u64) -> Text
+    ensures { λ r. ⌜ r ≡ andOne text letters a ⌝ }
 {
-    and_number(Text::empty().word(letters), a)
+    and_number(and_word(text, letters), a)
 }
 
-// A line of a word and two numbers.
-fn two(letters: u64, a: u64, b: u64) -> Text
-    ensures { λ r. ⌜ r ≡ twoOf letters a b ⌝ }
+// A word and two numbers.
+fn and_two(text: Text, letters: u64, a: u64, b: u64) -> Text
+    ensures { λ r. ⌜ r ≡ andTwo text letters a b ⌝ }
 {
-    and_number(one(letters, a), b).byte(10)
+    and_number(and_one(text, letters, a), b)
 }
 
 fn and_command(text: Text, command: Command) -> Text
@@ -592,27 +594,18 @@ fn and_command(text: Text, command: Command) -> Text
 {
     match command {
         Command::Nop => and_word(text, NOP),
-        Command::Act(bank, row) => and_number(
-            and_number(and_word(text, ACT), bank.0 as u64),
-            row.0 as u64,
-        ),
-        Command::Read(bank, column) => and_number(
-            and_number(and_word(text, READ_COMMAND), bank.0 as u64),
-            column.0 as u64,
-        ),
+        Command::Act(bank, row) => and_two(text, ACT, bank.0 as u64, row.0 as u64),
+        Command::Read(bank, column) => and_two(text, READ_COMMAND, bank.0 as u64, column.0 as u64),
         Command::Wrt(bank, column, halfword) => {
             and_number(
-                and_number(
-                    and_number(and_word(text, WRT), bank.0 as u64),
-                    column.0 as u64,
-                ),
+                and_two(text, WRT, bank.0 as u64, column.0 as u64),
                 halfword as u64,
             )
         }
-        Command::Pre(bank) => and_number(and_word(text, PRE), bank.0 as u64),
+        Command::Pre(bank) => and_one(text, PRE, bank.0 as u64),
         Command::Deac => and_word(text, DEAC),
         Command::Refr => and_word(text, REFR),
-        Command::Mrs(word) => and_number(and_word(text, MRS), word as u64),
+        Command::Mrs(word) => and_one(text, MRS, word as u64),
     }
 }
 
@@ -621,61 +614,72 @@ fn and_report(text: Text, report: Report) -> Text
 {
     match report {
         Report::Nothing => text.byte(32).byte(45),
-        Report::Read(number, halfword) => and_number(
-            and_number(and_word(text, READ), number as u64),
-            halfword as u64,
-        ),
-        Report::Write(number) => and_number(and_word(text, WRITE), number as u64),
+        Report::Read(number, halfword) => and_two(text, READ, number as u64, halfword as u64),
+        Report::Write(number) => and_one(text, WRITE, number as u64),
     }
+}
+
+// The beginning of a line: the call's word and a number.
+fn begun(letters: u64, n: u64) -> Text
+    ensures { λ r. ⌜ r ≡ begunOf letters n ⌝ }
+{
+    and_number(Text::empty().word(letters), n)
+}
+
+// A line of a word and two numbers.
+fn pair_line(letters: u64, a: u64, b: u64) -> Text
+    ensures { λ r. ⌜ r ≡ pairLine letters a b ⌝ }
+{
+    and_number(begun(letters, a), b).byte(10)
 }
 
 pub fn config_line(number: u8) -> Text
     ensures { λ r. ⌜ r ≡ configLine number ⌝ }
 {
-    one(CONFIG, number as u64).byte(10)
+    begun(CONFIG, number as u64).byte(10)
 }
 
 pub fn read_line(number: u8, request: u32) -> Text
     ensures { λ r. ⌜ r ≡ readLine number request ⌝ }
 {
-    two(READ, number as u64, request as u64)
+    pair_line(READ, number as u64, request as u64)
 }
 
 pub fn write_line(number: u8, request: u32) -> Text
     ensures { λ r. ⌜ r ≡ writeLine number request ⌝ }
 {
-    two(WRITE, number as u64, request as u64)
+    pair_line(WRITE, number as u64, request as u64)
 }
 
 pub fn slot_line(number: u8, command: Command, report: Report) -> Text
     ensures { λ r. ⌜ r ≡ slotLine number command report ⌝ }
 {
-    and_report(and_command(one(SLOT, number as u64), command), report).byte(10)
+    and_report(and_command(begun(SLOT, number as u64), command), report).byte(10)
 }
 
 pub fn backlog_line(number: u8, backlog: u8) -> Text
     ensures { λ r. ⌜ r ≡ backlogLine number backlog ⌝ }
 {
-    two(BACKLOG, number as u64, backlog as u64)
+    pair_line(BACKLOG, number as u64, backlog as u64)
 }
 
 pub fn cell_line(answer: ToCell) -> Text
     ensures { λ r. ⌜ r ≡ cellLine answer ⌝ }
 {
     let cell = answer.cell;
-    let bank = and_number(one(CELL, answer.number as u64), cell.bank.0 as u64);
+    let bank = and_number(begun(CELL, answer.number as u64), cell.bank.0 as u64);
     and_number(and_number(bank, cell.row.0 as u64), cell.column.0 as u64).byte(10)
 }
 
 pub fn address_line(answer: ToAddress) -> Text
     ensures { λ r. ⌜ r ≡ addressLine answer ⌝ }
 {
-    two(ADDRESS, answer.number as u64, answer.address as u64)
+    pair_line(ADDRESS, answer.number as u64, answer.address as u64)
 }
 
 // For a line that is no call.
 pub fn error_line(line: u64) -> Text
     ensures { λ r. ⌜ r ≡ errorLine line ⌝ }
 {
-    one(ERROR, line).byte(10)
+    begun(ERROR, line).byte(10)
 }

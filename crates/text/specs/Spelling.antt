@@ -4,7 +4,7 @@ use Prim.Native.Char.{code}
 use Prim.Native.String.{String, [] as nothing, _∷_ as _before_}
 use mathlib.Core.Bool.{cond}
 use mathlib.Core.List.{List, [], _∷_}
-use lib.Dec.{ltb}
+use lib.Dec.{ltb, leb}
 use lib.ListN.{take, set, replicate}
 use Rattle.text.specs.declared.Text.{Text}
 
@@ -30,7 +30,7 @@ unfoldable pub emptyOf : Text
 emptyOf = record { bytes = replicate 64 0; count = 0 }
 
 unfoldable pub byteOf : Text → ℕ → Text
-byteOf t b = cond (ltb (t .count) 64) (record { bytes = set (t .bytes) (t .count) b; count = t .count + 1 }) t
+byteOf t b = cond (leb 64 (t .count)) t (record { bytes = set (t .bytes) (t .count) b; count = t .count + 1 })
 
 -- the digits of n in a base, the last `most` at most, the highest first; the digit d is the byte z + d
 unfoldable pub spelledOf : Text → ℕ → ℕ → ℕ → ℕ → Text

@@ -1,3 +1,4 @@
+-- The test decides; its callee ensures the rest.
 use borrow.Author.Needs.{needs}
 use Rattle.script.proofs.after_zero.Statement.{statement}
 use Rattle.script.proofs.after_zero.Tie as tie

@@ -1,3 +1,4 @@
+-- Each arm knows its variant; its callees ensure what the clause says.
 use borrow.Author.Needs.{needs}
 use Rattle.script.proofs.and_report.Statement.{statement}
 use Rattle.script.proofs.and_report.Tie as tie
@@ -15,32 +16,23 @@ byte-requires-2 c κs = search needs
 enum-known-report : tie.Need-enum-known-report
 enum-known-report c = search needs
 
-and-word-requires : tie.Need-and-word-requires
-and-word-requires c κs = search needs
+cast-and-two : tie.Need-cast-and-two
+cast-and-two c = search needs
 
-cast-and-number : tie.Need-cast-and-number
-cast-and-number c = search needs
+cast-and-two-2 : tie.Need-cast-and-two-2
+cast-and-two-2 c = search needs
 
-and-number-requires : tie.Need-and-number-requires
-and-number-requires c κs = search needs
-
-cast-and-number-2 : tie.Need-cast-and-number-2
-cast-and-number-2 c = search needs
-
-and-number-requires-2 : tie.Need-and-number-requires-2
-and-number-requires-2 c κs = search needs
+and-two-requires : tie.Need-and-two-requires
+and-two-requires c κs = search needs
 
 enum-known-report-2 : tie.Need-enum-known-report-2
 enum-known-report-2 c = search needs
 
-and-word-requires-2 : tie.Need-and-word-requires-2
-and-word-requires-2 c κs = search needs
+cast-and-one : tie.Need-cast-and-one
+cast-and-one c = search needs
 
-cast-and-number-3 : tie.Need-cast-and-number-3
-cast-and-number-3 c = search needs
-
-and-number-requires-3 : tie.Need-and-number-requires-3
-and-number-requires-3 c κs = search needs
+and-one-requires : tie.Need-and-one-requires
+and-one-requires c κs = search needs
 
 returns : tie.Need-returns
 unfolding reportOf
@@ -48,11 +40,11 @@ returns c = simp (c .before .before .enum-told .given .1, ← c .before .byte .e
 
 returns-2 : tie.Need-returns-2
 unfolding reportOf
-returns-2 c = simp (c .before .before .before .before .report .given .1, ← c .before .before .and-word .ensures, ← c .before .and-number .ensures, ← c .and-number2 .ensures)
+returns-2 c = simp (c .before .before .report .given .1, ← c .and-two .ensures)
 
 returns-3 : tie.Need-returns-3
 unfolding reportOf
-returns-3 c = simp (c .before .before .before .report2 .given .1, ← c .before .and-word2 .ensures, ← c .and-number3 .ensures)
+returns-3 c = simp (c .before .before .report2 .given .1, ← c .and-one .ensures)
 
 pub and-report-spec : {M : Type 1} → statement M
 and-report-spec =
@@ -62,15 +54,12 @@ and-report-spec =
     byte-requires
     byte-requires-2
     enum-known-report
-    and-word-requires
-    cast-and-number
-    and-number-requires
-    cast-and-number-2
-    and-number-requires-2
+    cast-and-two
+    cast-and-two-2
+    and-two-requires
     enum-known-report-2
-    and-word-requires-2
-    cast-and-number-3
-    and-number-requires-3
+    cast-and-one
+    and-one-requires
     returns
     returns-2
     returns-3)

@@ -1,3 +1,4 @@
+-- The callees ensure it.
 use borrow.Author.Needs.{needs}
 use Rattle.script.proofs.and_word.Statement.{statement}
 use Rattle.script.proofs.and_word.Tie as tie

@@ -1,13 +1,14 @@
+-- The callees ensure it.
 use borrow.Author.Needs.{needs}
 use Rattle.script.proofs.cell_line.Statement.{statement}
 use Rattle.script.proofs.cell_line.Tie as tie
 use Rattle.script.specs.Output.{cellLine}
 
-cast-one : tie.Need-cast-one
-cast-one c = search needs
+cast-begun : tie.Need-cast-begun
+cast-begun c = search needs
 
-one-requires : tie.Need-one-requires
-one-requires c κs = search needs
+begun-requires : tie.Need-begun-requires
+begun-requires c κs = search needs
 
 cast-and-number : tie.Need-cast-and-number
 cast-and-number c = search needs
@@ -32,14 +33,14 @@ byte-requires c κs = search needs
 
 returns : tie.Need-returns
 unfolding cellLine
-returns c = simp (← c .before .before .before .before .before .before .before .one .ensures, ← c .before .before .before .before .before .and-number .ensures, ← c .before .before .before .and-number2 .ensures, ← c .before .and-number3 .ensures, ← c .byte .ensures)
+returns c = simp (← c .before .before .before .before .before .before .before .begun .ensures, ← c .before .before .before .before .before .and-number .ensures, ← c .before .before .before .and-number2 .ensures, ← c .before .and-number3 .ensures, ← c .byte .ensures)
 
 pub cell-line-spec : {M : Type 1} → statement M
 cell-line-spec =
     tie.close
     (tie.spec
-    cast-one
-    one-requires
+    cast-begun
+    begun-requires
     cast-and-number
     and-number-requires
     cast-and-number-2

@@ -1,3 +1,4 @@
+-- The test decides; its callee ensures the rest.
 use borrow.Author.Needs.{needs}
 use Rattle.script.proofs.first_byte.Statement.{statement}
 use Rattle.script.proofs.first_byte.Tie as tie

@@ -1,10 +1,11 @@
+-- The callees ensure it.
 use borrow.Author.Needs.{needs}
 use Rattle.script.proofs.slot_line.Statement.{statement}
 use Rattle.script.proofs.slot_line.Tie as tie
 use Rattle.script.specs.Output.{slotLine}
 
-one-requires : tie.Need-one-requires
-one-requires c κs = search needs
+begun-requires : tie.Need-begun-requires
+begun-requires c κs = search needs
 
 and-command-requires : tie.Need-and-command-requires
 and-command-requires c κs = search needs
@@ -17,9 +18,9 @@ byte-requires c κs = search needs
 
 returns : tie.Need-returns
 unfolding slotLine
-returns c = simp (← c .before .before .before .one .ensures, ← c .before .before .and-command .ensures, ← c .before .and-report .ensures, ← c .byte .ensures)
+returns c = simp (← c .before .before .before .begun .ensures, ← c .before .before .and-command .ensures, ← c .before .and-report .ensures, ← c .byte .ensures)
 
 pub slot-line-spec : {M : Type 1} → statement M
 slot-line-spec =
     tie.close
-    (tie.spec one-requires and-command-requires and-report-requires byte-requires returns)
+    (tie.spec begun-requires and-command-requires and-report-requires byte-requires returns)

@@ -1,8 +1,9 @@
+-- The definition goes on as the code does (`spelled-more`), with one digit fewer at each call: `most` is the measure.
 use Prim.Native.Nat.{ℕ, _<_}
 use native.Mathlib.Nat.{pos-of-ne-zero, mod-lt}
 use native.Mathlib.Omega.{arith}
 use borrow.Author.Needs.{needs}
-use borrow.Author.Tests.{lt-ltb, le-ltb}
+use borrow.Author.Tests.{le-ltb, lt-ltb}
 use Rattle.text.specs.Spelling.{spelledOf}
 use Rattle.text.proofs.Laws.{spelled-more}
 use borrow.Fn.Kinds.{In}

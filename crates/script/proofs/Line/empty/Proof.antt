@@ -1,3 +1,4 @@
+-- The callee gives the words; the record is the definition's.
 use borrow.Author.Needs.{needs}
 use Rattle.script.proofs.Line.empty.Statement.{statement}
 use Rattle.script.proofs.Line.empty.Tie as tie

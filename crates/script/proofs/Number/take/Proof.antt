@@ -1,3 +1,4 @@
+-- Each arm knows its variant; its callee ensures what the clause says.
 use borrow.Author.Needs.{needs}
 use Rattle.script.proofs.Number.take.Statement.{statement}
 use Rattle.script.proofs.Number.take.Tie as tie

@@ -1,3 +1,4 @@
+-- Each arm knows its variant, and the definition has a clause for it.
 use borrow.Author.Needs.{needs}
 use Rattle.script.proofs.Number.value.Statement.{statement}
 use Rattle.script.proofs.Number.value.Tie as tie

@@ -1,8 +1,9 @@
+-- The tests on the three numbers and on the count of words decide.
 use borrow.Author.Needs.{needs}
 use Rattle.script.proofs.Words.address.Statement.{statement}
 use Rattle.script.proofs.Words.address.Tie as tie
 use Rattle.script.specs.Line.{addressCall}
-use borrow.Author.Tests.{eq-eqb, le-leb, le-ltb, lt-leb, lt-ltb, ne-eqb}
+use borrow.Author.Tests.{eq-eqb, le-ltb, lt-ltb, ne-eqb}
 
 array-read-bank : tie.Need-array-read-bank
 array-read-bank c = search needs
@@ -15,15 +16,15 @@ array-read-column c = search needs
 
 returns : tie.Need-returns
 unfolding addressCall
-returns c = simp (lt-leb _ _ (c .if1 .taken), lt-ltb _ _ (c .if1 .taken))
+returns c = simp (lt-ltb _ _ (c .if1 .taken))
 
 returns-2 : tie.Need-returns-2
 unfolding addressCall
-returns-2 c = simp (le-ltb _ _ (c .before .if1 .left), le-leb _ _ (c .before .if1 .left), lt-leb _ _ (c .if2 .taken), lt-ltb _ _ (c .if2 .taken))
+returns-2 c = simp (le-ltb _ _ (c .before .if1 .left), lt-ltb _ _ (c .if2 .taken))
 
 returns-3 : tie.Need-returns-3
 unfolding addressCall
-returns-3 c = simp (le-ltb _ _ (c .before .before .if1 .left), le-leb _ _ (c .before .before .if1 .left), le-ltb _ _ (c .before .if2 .left), le-leb _ _ (c .before .if2 .left), lt-leb _ _ (c .if3 .taken), lt-ltb _ _ (c .if3 .taken))
+returns-3 c = simp (le-ltb _ _ (c .before .before .if1 .left), le-ltb _ _ (c .before .if2 .left), lt-ltb _ _ (c .if3 .taken))
 
 cast-t15 : tie.Need-cast-t15
 cast-t15 c = search needs
@@ -42,11 +43,11 @@ array-read-t26 c = search needs
 
 returns-4 : tie.Need-returns-4
 unfolding addressCall
-returns-4 c = simp (le-ltb _ _ (c .before .before .before .before .if1 .left), le-leb _ _ (c .before .before .before .before .if1 .left), le-ltb _ _ (c .before .before .before .if2 .left), le-leb _ _ (c .before .before .before .if2 .left), le-ltb _ _ (c .before .before .if3 .left), le-leb _ _ (c .before .before .if3 .left), eq-eqb _ _ (c .if4 .taken))
+returns-4 c = simp (le-ltb _ _ (c .before .before .before .before .if1 .left), le-ltb _ _ (c .before .before .before .if2 .left), le-ltb _ _ (c .before .before .if3 .left), eq-eqb _ _ (c .if4 .taken))
 
 returns-5 : tie.Need-returns-5
 unfolding addressCall
-returns-5 c = simp (le-ltb _ _ (c .before .before .before .before .if1 .left), le-leb _ _ (c .before .before .before .before .if1 .left), le-ltb _ _ (c .before .before .before .if2 .left), le-leb _ _ (c .before .before .before .if2 .left), le-ltb _ _ (c .before .before .if3 .left), le-leb _ _ (c .before .before .if3 .left), ne-eqb _ _ (c .if4 .left))
+returns-5 c = simp (le-ltb _ _ (c .before .before .before .before .if1 .left), le-ltb _ _ (c .before .before .before .if2 .left), le-ltb _ _ (c .before .before .if3 .left), ne-eqb _ _ (c .if4 .left))
 
 pub address-spec : {M : Type 1} → statement M
 address-spec =

@@ -1,4 +1,4 @@
-use borrow.Author.Needs.{needs}
+-- The test on the count of words decides.
 use Rattle.script.proofs.Words.backlog.Statement.{statement}
 use Rattle.script.proofs.Words.backlog.Tie as tie
 use Rattle.script.specs.Line.{backlogCall}

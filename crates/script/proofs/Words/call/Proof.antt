@@ -1,3 +1,4 @@
+-- Each way rewrites by the names that were tried; its callee ensures the rest.
 use borrow.Author.Needs.{needs}
 use Rattle.script.proofs.Words.call.Statement.{statement}
 use Rattle.script.proofs.Words.call.Tie as tie

@@ -1,3 +1,4 @@
+-- The test on the count of words decides.
 use borrow.Author.Needs.{needs}
 use Rattle.script.proofs.Words.cell.Statement.{statement}
 use Rattle.script.proofs.Words.cell.Tie as tie

@@ -1,3 +1,4 @@
+-- The test on the count of words decides.
 use borrow.Author.Needs.{needs}
 use Rattle.script.proofs.Words.config.Statement.{statement}
 use Rattle.script.proofs.Words.config.Tie as tie

@@ -1,3 +1,4 @@
+-- The callee gives the number; the other fields are the same.
 use borrow.Author.Needs.{needs}
 use Rattle.script.proofs.Words.figure.Statement.{statement}
 use Rattle.script.proofs.Words.figure.Tie as tie

@@ -1,3 +1,4 @@
+-- The record is the definition's.
 use borrow.Author.Needs.{needs}
 use Rattle.script.proofs.Words.none.Statement.{statement}
 use Rattle.script.proofs.Words.none.Tie as tie

@@ -1,3 +1,4 @@
+-- Each way rewrites by the tests that led there; its callee ensures the rest.
 use borrow.Author.Needs.{needs}
 use Rattle.script.proofs.Words.take.Statement.{statement}
 use Rattle.script.proofs.Words.take.Tie as tie

@@ -1,15 +1,16 @@
+-- The tests on the halfword and on the count of words decide.
 use borrow.Author.Needs.{needs}
 use Rattle.script.proofs.Words.write.Statement.{statement}
 use Rattle.script.proofs.Words.write.Tie as tie
 use Rattle.script.specs.Line.{writeCall}
-use borrow.Author.Tests.{eq-eqb, le-leb, le-ltb, lt-leb, lt-ltb, ne-eqb}
+use borrow.Author.Tests.{eq-eqb, le-ltb, lt-ltb, ne-eqb}
 
 array-read-halfword : tie.Need-array-read-halfword
 array-read-halfword c = search needs
 
 returns : tie.Need-returns
 unfolding writeCall
-returns c = simp (lt-leb _ _ (c .if1 .taken), lt-ltb _ _ (c .if1 .taken))
+returns c = simp (lt-ltb _ _ (c .if1 .taken))
 
 array-read-t10 : tie.Need-array-read-t10
 array-read-t10 c = search needs
@@ -19,11 +20,11 @@ cast-t11 c = search needs
 
 returns-2 : tie.Need-returns-2
 unfolding writeCall
-returns-2 c = simp (le-ltb _ _ (c .before .before .if1 .left), le-leb _ _ (c .before .before .if1 .left), eq-eqb _ _ (c .if2 .taken))
+returns-2 c = simp (le-ltb _ _ (c .before .before .if1 .left), eq-eqb _ _ (c .if2 .taken))
 
 returns-3 : tie.Need-returns-3
 unfolding writeCall
-returns-3 c = simp (le-ltb _ _ (c .before .before .if1 .left), le-leb _ _ (c .before .before .if1 .left), ne-eqb _ _ (c .if2 .left))
+returns-3 c = simp (le-ltb _ _ (c .before .before .if1 .left), ne-eqb _ _ (c .if2 .left))
 
 pub write-spec : {M : Type 1} → statement M
 write-spec =

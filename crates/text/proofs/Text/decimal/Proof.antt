@@ -1,3 +1,4 @@
+-- The callee ensures it.
 use borrow.Author.Needs.{needs}
 use Rattle.text.proofs.Text.decimal.Statement.{statement}
 use Rattle.text.proofs.Text.decimal.Tie as tie

@@ -1,3 +1,4 @@
+-- The record is the definition's.
 use borrow.Author.Needs.{needs}
 use Rattle.text.proofs.Text.empty.Statement.{statement}
 use Rattle.text.proofs.Text.empty.Tie as tie
