@@ -2,7 +2,7 @@
 ghost use mathlib.Core.Path.{_≡_};
 ghost use Prim.Native.Nat.{_<_, _^_, max};
 ghost use Rattle.config.specs.Words.{bits, fieldOf, anySet, cfgReserved, rowReserved, refReserved, timReserved, reservedMap, reservedAll};
-ghost use Rattle.config.specs.Setting.{offeredOf, geometryOf, configOf, tooShort, checkedOf, refusedOf, settingOf, mapNumberOf, accessSpan, refreshSpan};
+ghost use Rattle.config.specs.Setting.{noConfig, offeredOf, geometryOf, configOf, tooShort, checkedOf, refusedOf, settingOf, mapNumberOf, accessSpan, refreshSpan};
 ghost use Rattle.config.specs.Accepted.{outsideOf, shapedOf, distancesOf, spannedOf, acceptedOf};
 
 // The device's shape: how many bits number its columns, banks and rows.
@@ -202,16 +202,16 @@ fn described(cfg: u32, row: u32, refr: u32, tim: u32) -> Config
     }
 }
 
-// A refusal with its number: no configuration.
-fn refused(number: u8) -> Setting
-    ensures { λ r. ⌜ r ≡ refusedOf number ⌝ }
+// No device: what a refusal and a blank machine hold.
+pub fn none() -> Config
+    ensures { λ r. ⌜ r ≡ noConfig ⌝ }
 {
     let geometry = Geometry {
         columns: 0,
         banks: 0,
         rows: 0,
     };
-    let config = Config {
+    Config {
         geometry,
         latency: 0,
         rfc: 0,
@@ -224,7 +224,14 @@ fn refused(number: u8) -> Setting
         rr: 0,
         access: 0,
         refresh: 0,
-    };
+    }
+}
+
+// A refusal with its number.
+fn refused(number: u8) -> Setting
+    ensures { λ r. ⌜ r ≡ refusedOf number ⌝ }
+{
+    let config = none();
     Setting { number, config }
 }
 

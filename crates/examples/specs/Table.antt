@@ -18,6 +18,8 @@ use Rattle.examples.specs.Run.{Event, sent, told, free, watched, request
 pub data Question : Type 0 where
   -- what do four register words give?
   words : (cfg row ref tim : ℕ) → Question
+  -- which distances do they hold: tRFC, tRP, tRCD, tWR, tRAS, tRC, tRRD?
+  distances : (cfg row ref tim : ℕ) → Question
   -- which cell has this address, under a CFG and a ROW word?
   cell : (cfg row address : ℕ) → Question
   -- with these requests queued before slot 1, what happens in the first n slots, from slot `from` on, if the bus carries 7?
@@ -39,9 +41,13 @@ ofSetting s = spans (s .number) (s .config .access) (s .config .refresh)
 abbrev pub ofCell : ToCell → Answer
 ofCell r = place (r .number) (r .cell .bank .0) (r .cell .row .0) (r .cell .column .0)
 
+abbrev pub distancesOf : Config → List ℕ
+distancesOf c = c .rfc ∷ c .rp ∷ c .rcd ∷ c .wr ∷ c .ras ∷ c .rc ∷ c .rrd ∷ []
+
 -- what the definitions answer
 unfoldable pub answer : Question → Answer
 answer (words cfg row ref tim) = ofSetting (settingOf cfg row ref tim)
+answer (distances cfg row ref tim) = numbers (distancesOf (settingOf cfg row ref tim .config))
 answer (cell cfg row a) = ofCell (toCellOf cfg row a)
 answer (bus cfg row ref tim calls n from) = events (watched n 1 from false 7 (requested (configureOf cfg row ref tim .machine) calls))
 answer (order cfg row ref tim calls n) = numbers (numbersOf (watched n 1 1 false 7 (requested (configureOf cfg row ref tim .machine) calls)))
@@ -78,6 +84,7 @@ table =
     -- E4
     ∷ row (words 0x4620 4 136 0x42215810) (spans 0 28 18)
     ∷ row (words 0x4620 4 135 0x42215810) (spans 3 0 0)
+    ∷ row (distances 0x4620 4 136 0x42215810) (numbers (9 ∷ 3 ∷ 3 ∷ 2 ∷ 6 ∷ 9 ∷ 2 ∷ []))
     -- E5
     ∷ row (bus 0x4400 0 27 0 (write 0 9 ∷ read 0 ∷ []) 234 1)
     (events

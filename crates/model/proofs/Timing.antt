@@ -45,7 +45,8 @@ use Rattle.model.specs.Sdram.{Sdram}
 use Rattle.model.specs.Flat.{Flat}
 use Rattle.model.specs.Condition.{isRefr}
 use Rattle.model.proofs.Invariant.{Good, Doing, leftOf, needOf, Settled, Owing, Timely}
-use Rattle.model.proofs.TimingActs.{Placed, Counting, stays, falls, Acted, if-both, moded-sent, mode-sent, rested, act-left, close-bound, access-bound}
+use Rattle.model.proofs.OrderSend.{if-both}
+use Rattle.model.proofs.TimingActs.{Placed, Counting, stays, falls, Acted, moded-sent, mode-sent, rested, act-left, close-bound, access-bound}
 
 -- the request of an access is queued
 abbrev pub Queued : Queue → Action → Type 0

@@ -31,6 +31,7 @@ use Rattle.service.specs.declared.Action.the-variants.{Idle, Access, Data, Turn
 use Rattle.service.specs.declared.Effect.{Effect}
 use Rattle.service.specs.Actions.{isIdle, quiet, sendOf, readOf, writtenOf, writeOf, transferOf, accessOf, takenOf, dataOf, recoveryOf, refreshOf, actOf}
 use Rattle.model.specs.Condition.{isRefr}
+use Rattle.model.proofs.OrderSend.{if-both}
 use Rattle.model.proofs.Invariant.{short, bankHeld, allHeld, othersHeld, transferLeft, activateLeft, closeLeft, accessLeft, leftOf, dueOf, needOf, Settled, Owing}
 use Rattle.model.proofs.TimingDistances.{Falls, short-least, sent-falls, sent-new, bank-falls, all-falls, others-fall, bank-least, all-least, others-least, R2-ready, act-ready, read-ready, wrt-ready, pre-ready, deac-ready, refr-ready}
 
@@ -68,10 +69,6 @@ pub record Acted (c : Config) (p : Past) (q : Queue) (a : Action) (n : Counters)
   pub settled : Settled c (e .past) (e .action)
   pub left : leftOf c (e .past) (e .queue) (e .action) + 1 ≤ leftOf c p q a
   pub counting : Counting c p q a n e
-
-pub if-both : {A : Type 0} (P : A → Type 0) (t : Bool) {x y : A} → (t ≡ true → P x) → (t ≡ false → P y) → P (cond t x y)
-if-both P true p q = p refl
-if-both P false p q = q refl
 
 -- a command that is not legal still waits for something
 waits : (x : ℕ) {t : Bool} → (x ≡ 0 → t ≡ true) → t ≡ false → 1 ≤ x

@@ -18,7 +18,6 @@ ghost use mathlib.Core.Path.{_≡_};
 ghost use Prim.Native.Nat.{_≤_, _<_};
 ghost use lib.ListN.{take};
 ghost use Rattle.config.specs.Accepted.{Shaped};
-ghost use Rattle.config.specs.Setting.{noConfig};
 ghost use Rattle.address.specs.Map.{capacityOf};
 ghost use Rattle.sequencer.specs.Machine.{blankOf, machineOf, startedOf, servedOf, chosenOf, continuedOf, begunOf, serviceOf, stepOf};
 ghost use Rattle.sequencer.specs.Sound.{rangedOf, stagedOf, insideOf, queuedOf, countingOf, fitOf, soundOf};
@@ -81,31 +80,6 @@ pub struct Slot {
 pub struct Reading {
     pub number: u8,
     pub backlog: u8,
-}
-
-// No device.
-fn no_config() -> Config
-    ensures { λ r. ⌜ r ≡ noConfig ⌝ }
-{
-    let geometry = Geometry {
-        columns: 0,
-        banks: 0,
-        rows: 0,
-    };
-    Config {
-        geometry,
-        latency: 0,
-        rfc: 0,
-        rp: 0,
-        rcd: 0,
-        wr: 0,
-        ras: 0,
-        rc: 0,
-        rrd: 0,
-        rr: 0,
-        access: 0,
-        refresh: 0,
-    }
 }
 
 // The machine that an accepted configuration gives.
@@ -235,7 +209,7 @@ impl Machine {
     pub fn blank() -> Machine
         ensures { λ r. ⌜ r ≡ blankOf ⌝ }
     {
-        let config = no_config();
+        let config = config::none();
         let past = device::fresh();
         let counters = Counters::start(0);
         let queue = Queue::empty();

@@ -1,3 +1,4 @@
+-- The tests and calls on the way to each `returns` decide the definition's case.
 use borrow.Author.Needs.{needs}
 use Rattle.sequencer.proofs.staged.Statement.{statement}
 use Rattle.sequencer.proofs.staged.Tie as tie

@@ -4,8 +4,8 @@ use Rattle.sequencer.specs.Machine.{blankOf}
 use Rattle.sequencer.proofs.Machine.blank.Statement.{statement}
 use Rattle.sequencer.proofs.Machine.blank.Tie as tie
 
-no-config-requires : tie.Need-no-config-requires
-no-config-requires c κs = search needs
+none-requires : tie.Need-none-requires
+none-requires c κs = search needs
 
 fresh-requires : tie.Need-fresh-requires
 fresh-requires c κs = search needs
@@ -20,7 +20,7 @@ returns : tie.Need-returns
 unfolding blankOf
 returns c =
     simp (
-      ← c .before .before .before .no-config .ensures,
+      ← c .before .before .before .none .ensures,
       ← c .before .before .fresh .ensures,
       ← c .before .start .ensures,
       ← c .empty .ensures,
@@ -28,4 +28,4 @@ returns c =
 
 pub blank-spec : {M : Type 1} → statement M
 blank-spec =
-    tie.close (tie.spec no-config-requires fresh-requires start-requires empty-requires returns)
+    tie.close (tie.spec none-requires fresh-requires start-requires empty-requires returns)
