@@ -35,7 +35,7 @@ pub struct ToAddress {
 }
 
 // How many numbers a width in bits has.
-pub fn span(width: u8) -> u32
+fn span(width: u8) -> u32
     requires { ⌜ width < 32 ⌝ }
     ensures { λ r. ⌜ r ≡ 2 ^ width ⌝ }
 {
