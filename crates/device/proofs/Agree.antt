@@ -38,6 +38,8 @@ use Rattle.device.specs.Ages.{
   byAges,
   sentOf,
   rowKept,
+  attemptOf,
+  carriedOf,
   triedOf,
   verdictsByAges,
 }
@@ -272,7 +274,7 @@ agrees-slot {p} {l} a k g w = record {
 
 -- a legal command is sent, and any other counts as not sent, on both sides
 pub agrees-step : {c : Config} {p : Past} {l : Log} → Bounded c → Agrees p l → (k : Command) → Agrees (triedOf c p k) (fed c l k)
-unfolding triedOf fed
+unfolding triedOf attemptOf carriedOf fed
 agrees-step {c} {p} {l} n a k = rw (same-verdict n a k) (go (allowed c l k))
   where
     go : (t : Bool) → Agrees (sentOf p (cond t k Nop)) (record { now = suc (l .now); past = cond t (record { slot = l .now; command = k } ∷ l .past) (l .past) })
@@ -295,5 +297,5 @@ tried-legal c v k = by-test (legalOf c v k) (λ e. rw e e) (λ e. rw e)
 
 -- the slot after a legal command
 pub agrees-sent : {c : Config} {p : Past} {l : Log} → Bounded c → Agrees p l → (k : Command) → legalOf c (byAges p) k ≡ true → Agrees (sentOf p k) (fed c l k)
-unfolding triedOf
+unfolding triedOf attemptOf carriedOf
 agrees-sent {c} {p} {l} n a k e = rw e at (agrees-step n a k)

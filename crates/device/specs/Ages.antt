@@ -12,6 +12,7 @@ use Rattle.command.specs.declared.Command.the-variants.{Nop}
 use Rattle.device.specs.declared.BankPast.{BankPast}
 use Rattle.device.specs.declared.Past.{Past}
 use Rattle.device.specs.declared.Marks.{Marks}
+use Rattle.device.specs.declared.Attempt.{Attempt}
 use Rattle.device.specs.View.{View, Event, refresh, mode, read, close, activate, precharge, write, marksOf, rowOf}
 use Rattle.device.specs.Rules.{legalOf}
 
@@ -87,8 +88,16 @@ unfoldable pub rowKept : BankPast → Option Row
 rowKept x = cond (x .opened) (some (x .row)) none
 
 -- a slot in which a command is tried: one that is not legal is not sent, and the slot is a NOP
+unfoldable pub carriedOf : Bool → Command → Command
+carriedOf sent k = cond sent k Nop
+
+unfoldable pub attemptOf : Config → Past → Command → Attempt
+attemptOf c p k =
+    let sent : Bool = legalOf c (byAges p) k in
+    record { sent = sent; command = carriedOf sent k; past = sentOf p (carriedOf sent k) }
+
 unfoldable pub triedOf : Config → Past → Command → Past
-triedOf c p k = sentOf p (cond (legalOf c (byAges p) k) k Nop)
+triedOf c p k = attemptOf c p k .past
 
 -- the verdicts on the commands of the slots to come
 unfoldable pub verdictsByAges : Config → Past → List Command → List Bool

@@ -20,6 +20,8 @@ use Rattle.device.specs.Ages.{
   bankSentOf,
   banksSentOf,
   sentOf,
+  attemptOf,
+  carriedOf,
   triedOf,
   rowKept,
   verdictsByAges,
@@ -160,7 +162,7 @@ unfolding runs run tries device commands wanted wantedOf byHistoryOf verdicts fe
 legal-by-history = refl
 
 legal-by-ages : map byAgesOf runs ≡ map wantedOf runs
-unfolding runs run tries device commands wanted wantedOf byAgesOf verdictsByAges triedOf sentOf banksSentOf bankSentOf agedOf bankOf freshOf legalOf allClosed R2 R7 R12-all R13-all marksOf rowOf
+unfolding runs run tries device commands wanted wantedOf byAgesOf verdictsByAges triedOf attemptOf carriedOf sentOf banksSentOf bankSentOf agedOf bankOf freshOf legalOf allClosed R2 R7 R12-all R13-all marksOf rowOf
 legal-by-ages = refl
 
 -- the rows that are open after the first n slots of the first run
@@ -202,7 +204,7 @@ unfolding slots rowsOf row rowsByHistory four logAfter tries device commands fed
 rows-by-history = refl
 
 rows-by-ages : map rowsByAges slots ≡ rowsOf
-unfolding slots rowsOf row rowsByAges four pastAfter tries device commands triedOf sentOf banksSentOf bankSentOf agedOf bankOf freshOf rowKept legalOf allClosed R2 R7 R12-all R13-all marksOf rowOf
+unfolding slots rowsOf row rowsByAges four pastAfter tries device commands triedOf attemptOf carriedOf sentOf banksSentOf bankSentOf agedOf bankOf freshOf rowKept legalOf allClosed R2 R7 R12-all R13-all marksOf rowOf
 rows-by-ages = refl
 
 -- the log has the slots, counted from 1

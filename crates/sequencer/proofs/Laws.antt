@@ -20,14 +20,19 @@ use Rattle.queue.specs.declared.Request.{Request}
 use Rattle.queue.specs.Places.{blankOf, heldOf, emptyOf}
 use Rattle.queue.specs.Order.{Each, none, more}
 use Rattle.refresh.specs.declared.Counters.{Counters}
+use Rattle.refresh.specs.Urgency.{levelOf, runOf}
 use Rattle.refresh.proofs.Counts.{Bounded, bounded-start}
 use Rattle.startup.specs.declared.Stage.{Stage}
 use Rattle.startup.specs.declared.Stage.the-variants as stage
+use Rattle.device.proofs.Agree.{by-test}
 use Rattle.service.specs.Actions.{isIdle}
+use Rattle.service.specs.Plan.{planOf, byPlan}
+use Rattle.service.proofs.Laws.{plan-acts}
 use Rattle.service.specs.declared.Action.{Action}
 use Rattle.service.specs.declared.Action.the-variants.{Idle, Access, Data, Turn, Close, Refresh, Recover}
 use Rattle.sequencer.specs.declared.Machine.{Machine}
 use Rattle.sequencer.specs.Machine as machine
+use Rattle.sequencer.specs.Machine.{servedOf, chosenOf, begunOf, continuedOf, serviceOf}
 use Rattle.sequencer.specs.Sound.{rangedOf, stagedOf, insideOf, queuedOf, countingOf, fitOf, soundOf}
 use Rattle.sequencer.specs.Calls.{recordNumberOf, lastNumber, roomNumberOf, requestNumberOf}
 
@@ -262,3 +267,14 @@ pub inside-end : (g : Geometry) (l : List Request) (n i : ℕ) → n ≤ i → n
 inside-end g l n i h k =
     let p : length (take n l) ≤ i = rw length-take-le h in
     rw (drop-of-length-le (take n l) p)
+
+-- A service slot by its plan: the action is the one under way or the choice, and the flag changes with a choice only.
+
+pub service-by-plan : (m : Machine) (n : Counters) (bus : ℕ)
+    → servedOf m (cond (isIdle (m .action)) (runOf (m .run) (levelOf (n .backlog))) (m .run))
+    (byPlan (m .config) (m .past) n (m .queue)
+    (planOf (m .config) (m .past) (m .queue) (cond (isIdle (m .action)) (chosenOf m (levelOf (n .backlog))) (m .action)) bus))
+    ≡ serviceOf m n bus
+unfolding serviceOf begunOf continuedOf
+service-by-plan m n bus =
+    by-test (isIdle (m .action)) (λ e. simp (e, plan-acts (m .config) (m .past) n (m .queue) (chosenOf m (levelOf (n .backlog))) bus)) (λ e. simp (e, plan-acts (m .config) (m .past) n (m .queue) (m .action) bus))

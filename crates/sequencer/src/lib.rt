@@ -3,23 +3,30 @@ use command::Command;
 use config::Config;
 use config::Geometry;
 use config::Setting;
+use device::Attempt;
 use device::Past;
+use queue::Found;
 use queue::Kind;
 use queue::Queue;
 use queue::Request;
 use refresh::Counters;
 use refresh::Level;
 use service::Action;
-use service::Effect;
+use service::Plan;
 use service::Report;
 use startup::Stage;
-use startup::Started;
+use startup::Trial;
 ghost use mathlib.Core.Path.{_≡_};
+ghost use mathlib.Core.Bool.{cond};
 ghost use Prim.Native.Nat.{_≤_, _<_};
 ghost use lib.ListN.{take};
 ghost use Rattle.config.specs.Accepted.{Shaped};
 ghost use Rattle.address.specs.Map.{capacityOf};
-ghost use Rattle.sequencer.specs.Machine.{blankOf, machineOf, startedOf, servedOf, chosenOf, continuedOf, begunOf, serviceOf, stepOf};
+ghost use Rattle.refresh.specs.Urgency.{runOf};
+ghost use Rattle.startup.specs.Trial.{byTrial};
+ghost use Rattle.service.specs.Actions.{isIdle};
+ghost use Rattle.service.specs.Plan.{leftOf, countedOf, carriedOut, putOff, byPlan};
+ghost use Rattle.sequencer.specs.Machine.{blankOf, machineOf, startedOf, servedOf, chosenOf, serviceOf, stepOf};
 ghost use Rattle.sequencer.specs.Sound.{rangedOf, stagedOf, insideOf, queuedOf, countingOf, fitOf, soundOf};
 ghost use Rattle.sequencer.specs.Calls.{
   configuredBy,
@@ -86,7 +93,7 @@ pub struct Reading {
 fn started_with(config: Config) -> Machine
     ensures { λ r. ⌜ r ≡ machineOf config ⌝ }
 {
-    let past = device::fresh();
+    let past = tracker::fresh();
     let stage = startup::first_stage(config);
     let counters = Counters::start(config.rr);
     let queue = Queue::empty();
@@ -117,6 +124,26 @@ fn configured_by(setting: Setting) -> Configured
         number: setting.number,
         machine,
     }
+}
+
+// The queue, where a place is left or not.
+fn left(q: Queue, leaves: Found) -> Queue
+    ensures { λ r. ⌜ r ≡ leftOf q leaves ⌝ }
+{
+    match leaves {
+        Found::At(i) => q.remove(i),
+        Found::Nothing => q,
+    }
+}
+
+// The counters, after a REFR or not.
+fn counted(n: Counters, refreshes: bool) -> Counters
+    ensures { λ r. ⌜ r ≡ countedOf n refreshes ⌝ }
+{
+    if refreshes {
+        return n.refreshed();
+    }
+    n
 }
 
 // Soundness, the test for number 9; docs/SOUNDNESS.md says it in words.
@@ -210,7 +237,7 @@ impl Machine {
         ensures { λ r. ⌜ r ≡ blankOf ⌝ }
     {
         let config = config::none();
-        let past = device::fresh();
+        let past = tracker::fresh();
         let counters = Counters::start(0);
         let queue = Queue::empty();
         Machine {
@@ -384,12 +411,16 @@ impl Machine {
     }
 
     // The machine after a slot of the initialisation.
-    fn started(self, s: Started) -> Slot
-        ensures { λ r. ⌜ r ≡ startedOf self s ⌝ }
+    fn started(self, trial: Trial) -> Slot
+        requires { ⌜ Shaped (self .config .geometry) ⌝ }
+        ensures { λ r. ⌜ r ≡ startedOf self (byTrial (self .config) (self .past) trial) ⌝ }
     {
         let config = self.config;
-        let past = s.past;
-        let stage = s.stage;
+        let before = self.past;
+        let wanted = trial.command;
+        let a = tracker::attempt(config, before, wanted);
+        let stage = startup::stage_after(a.sent, trial);
+        let past = a.past;
         let counters = self.counters;
         let queue = self.queue;
         let action = self.action;
@@ -404,7 +435,7 @@ impl Machine {
             action,
             accepted: self.accepted,
         };
-        let command = s.command;
+        let command = a.command;
         Slot {
             number: 0,
             command,
@@ -413,16 +444,18 @@ impl Machine {
         }
     }
 
-    // The machine after a service slot, with the Must run flag after it.
-    fn served(self, run: bool, e: Effect) -> Slot
-        ensures { λ r. ⌜ r ≡ servedOf self run e ⌝ }
+    // A service slot whose plan is carried out, its command sent.
+    fn carried_out(self, ticked: Counters, run: bool, plan: Plan, a: Attempt) -> Slot
+        ensures { λ r. ⌜ r ≡ servedOf self run (carriedOut ticked (self .queue) plan a) ⌝ }
     {
         let config = self.config;
-        let past = e.past;
+        let past = a.past;
         let stage = self.stage;
-        let counters = e.counters;
-        let queue = e.queue;
-        let action = e.action;
+        let counters = counted(ticked, plan.refreshes);
+        let before = self.queue;
+        let leaves = plan.leaves;
+        let queue = left(before, leaves);
+        let action = plan.next;
         let machine = Machine {
             configured: true,
             config,
@@ -434,14 +467,58 @@ impl Machine {
             action,
             accepted: self.accepted,
         };
-        let command = e.command;
-        let report = e.report;
+        let command = a.command;
+        let report = plan.report;
         Slot {
             number: 0,
             command,
             report,
             machine,
         }
+    }
+
+    // A service slot whose plan is put off, its command not legal yet.
+    fn put_off(self, counters: Counters, run: bool, plan: Plan, a: Attempt) -> Slot
+        ensures { λ r. ⌜ r ≡ servedOf self run (putOff counters (self .queue) plan a) ⌝ }
+    {
+        let config = self.config;
+        let past = a.past;
+        let stage = self.stage;
+        let queue = self.queue;
+        let action = plan.here;
+        let machine = Machine {
+            configured: true,
+            config,
+            past,
+            stage,
+            counters,
+            run,
+            queue,
+            action,
+            accepted: self.accepted,
+        };
+        let command = a.command;
+        Slot {
+            number: 0,
+            command,
+            report: Report::Nothing,
+            machine,
+        }
+    }
+
+    // The machine after a service slot, with the Must run flag after it.
+    fn served(self, counters: Counters, run: bool, plan: Plan) -> Slot
+        requires { ⌜ Shaped (self .config .geometry) ⌝ }
+        ensures { λ r. ⌜ r ≡ servedOf self run (byPlan (self .config) (self .past) counters (self .queue) plan) ⌝ }
+    {
+        let config = self.config;
+        let before = self.past;
+        let wanted = plan.command;
+        let a = tracker::attempt(config, before, wanted);
+        if a.sent {
+            return self.carried_out(counters, run, plan, a);
+        }
+        self.put_off(counters, run, plan, a)
     }
 
     // The choice at a level.
@@ -453,34 +530,30 @@ impl Machine {
         let read = queue.oldest(Kind::Read);
         let write = queue.oldest(Kind::Write);
         let past = self.past;
-        let closed = device::all_closed(past);
+        let closed = tracker::all_closed(past);
         service::choose(run, level, read, write, closed)
     }
 
-    // The action under way goes on.
-    fn continued(self, counters: Counters, bus: u16) -> Slot
-        requires { ⌜ Shaped (self .config .geometry) ⌝ }
-        ensures { λ r. ⌜ r ≡ continuedOf self counters bus ⌝ }
+    // The action of this slot: the one under way, or the choice.
+    fn next_action(self, level: Level) -> Action
+        ensures { λ r. ⌜ r ≡ cond (isIdle (self .action)) (chosenOf self level) (self .action) ⌝ }
     {
-        let config = self.config;
-        let past = self.past;
-        let queue = self.queue;
         let action = self.action;
-        let e = service::act(config, past, counters, queue, action, bus);
-        self.served(self.run, e)
+        if service::is_idle(action) {
+            return self.chosen(level);
+        }
+        action
     }
 
-    // The choice, and the first slot of its action.
-    fn begun(self, counters: Counters, level: Level, bus: u16) -> Slot
-        requires { ⌜ Shaped (self .config .geometry) ⌝ }
-        ensures { λ r. ⌜ r ≡ begunOf self counters level bus ⌝ }
+    // The Must run flag after this slot: it changes with a choice only.
+    fn next_run(self, level: Level) -> bool
+        ensures { λ r. ⌜ r ≡ cond (isIdle (self .action)) (runOf (self .run) level) (self .run) ⌝ }
     {
-        let config = self.config;
-        let past = self.past;
-        let queue = self.queue;
-        let action = self.chosen(level);
-        let e = service::act(config, past, counters, queue, action, bus);
-        self.served(refresh::run_after(self.run, level), e)
+        let action = self.action;
+        if service::is_idle(action) {
+            return refresh::run_after(self.run, level);
+        }
+        self.run
     }
 
     // A service slot, after its counters.
@@ -488,11 +561,13 @@ impl Machine {
         requires { ⌜ Shaped (self .config .geometry) ⌝ }
         ensures { λ r. ⌜ r ≡ serviceOf self counters bus ⌝ }
     {
-        let action = self.action;
-        if service::is_idle(action) {
-            return self.begun(counters, refresh::urgency(counters.backlog), bus);
-        }
-        self.continued(counters, bus)
+        let level = refresh::urgency(counters.backlog);
+        let action = self.next_action(level);
+        let config = self.config;
+        let past = self.past;
+        let queue = self.queue;
+        let plan = service::planned(config, past, queue, action, bus);
+        self.served(counters, self.next_run(level), plan)
     }
 
     // One slot of a sound machine that is configured.
@@ -507,9 +582,7 @@ impl Machine {
             return self.service(counters, bus);
         }
         let config = self.config;
-        let past = self.past;
-        let s = startup::start_slot(config, past, stage);
-        self.started(s)
+        self.started(startup::tried(config, stage))
     }
 
     // One slot; `bus` is the halfword that the bus carries.

@@ -8,9 +8,20 @@ use queue::Queue;
 use queue::Request;
 use refresh::Counters;
 use refresh::Level;
-ghost use Rattle.device.specs.Bounds.{Shaped};
 ghost use Rattle.service.specs.Choice.{accessOr, needs, idleRefresh, fromRule5, fromRule3, choiceOf};
-ghost use Rattle.service.specs.Actions.{isIdle, quiet, sendOf, readOf, writtenOf, writeOf, transferOf, accessOf, takenOf, dataOf, recoveryOf, refreshOf, actOf};
+ghost use Rattle.service.specs.Actions.{isIdle, recoveryOf};
+ghost use Rattle.service.specs.Plan.{
+  plainOf,
+  restOf,
+  readPlan,
+  writePlan,
+  transferPlan,
+  accessPlan,
+  takenPlan,
+  dataPlan,
+  refreshPlan,
+  planOf,
+};
 ghost use Prim.Native.Nat.{_-_};
 ghost use mathlib.Core.Path.{_≡_};
 
@@ -39,7 +50,8 @@ pub enum Report {
     Write(u32),
 }
 
-// What a slot does: the slot's command and report, and what is known after it.
+// What a slot does: the slot's command and report, and what is known after it. The definitions speak of it; the code makes a plan instead,
+// so that the queue is not copied along.
 pub struct Effect {
     pub past: Past,
     pub counters: Counters,
@@ -47,6 +59,17 @@ pub struct Effect {
     pub action: Action,
     pub command: Command,
     pub report: Report,
+}
+
+// What a slot is to do: the command that it tries, and the action after it where that is not sent and where it is. Where it is sent, also
+// the slot's report, the place that a request leaves, and whether the backlog falls.
+pub struct Plan {
+    pub command: Command,
+    pub here: Action,
+    pub next: Action,
+    pub report: Report,
+    pub leaves: Found,
+    pub refreshes: bool,
 }
 
 // The request found, or what a later rule chooses.
@@ -129,129 +152,107 @@ pub fn is_idle(action: Action) -> bool
     }
 }
 
-// A slot that carries k and reports nothing, with the action after it.
-fn quiet(p: Past, n: Counters, q: Queue, k: Command, next: Action) -> Effect
-    ensures { λ r. ⌜ r ≡ quiet p n q k next ⌝ }
+// Tries k, and reports nothing.
+fn plain(k: Command, here: Action, next: Action) -> Plan
+    ensures { λ r. ⌜ r ≡ plainOf k here next ⌝ }
 {
-    let past = device::sent(p, k);
-    Effect {
-        past,
-        counters: n,
-        queue: q,
-        action: next,
+    Plan {
         command: k,
+        here,
+        next,
         report: Report::Nothing,
+        leaves: Found::Nothing,
+        refreshes: false,
     }
 }
 
-// k if it is legal, and NOP if it isn't, with the action after either.
-fn send(c: Config, p: Past, n: Counters, q: Queue, k: Command, here: Action, next: Action) -> Effect
-    requires { ⌜ Shaped (c .geometry) ⌝ }
-    ensures { λ r. ⌜ r ≡ sendOf c p n q k here next ⌝ }
+// A NOP, which is always sent.
+fn rest(next: Action) -> Plan
+    ensures { λ r. ⌜ r ≡ restOf next ⌝ }
 {
-    if device::legal(c, p, k) {
-        return quiet(p, n, q, k, next);
-    }
-    quiet(p, n, q, Command::Nop, here)
+    plain(Command::Nop, next, next)
 }
 
 // The READ for the request r at place i.
-fn read(c: Config, p: Past, n: Counters, q: Queue, i: usize, r: Request) -> Effect
-    requires { ⌜ Shaped (c .geometry) ⌝ }
-    ensures { λ e. ⌜ e ≡ readOf c p n q i r ⌝ }
+fn read(c: Config, i: usize, r: Request) -> Plan
+    ensures { λ e. ⌜ e ≡ readPlan c i r ⌝ }
 {
     let bank = r.cell.bank;
     let column = r.cell.column;
-    let k = Command::Read(bank, column);
-    send(c, p, n, q, k, Action::Access(i), Action::Data(i, c.latency))
-}
-
-// The slot of the WRT k for the request r at place i.
-fn written(p: Past, n: Counters, q: Queue, i: usize, r: Request, k: Command) -> Effect
-    ensures { λ e. ⌜ e ≡ writtenOf p n q i r k ⌝ }
-{
-    let past = device::sent(p, k);
-    let queue = q.remove(i);
-    Effect {
-        past,
-        counters: n,
-        queue,
-        action: Action::Idle,
-        command: k,
-        report: Report::Write(r.number),
-    }
+    plain(
+        Command::Read(bank, column),
+        Action::Access(i),
+        Action::Data(i, c.latency),
+    )
 }
 
 // The WRT for the request r at place i.
-fn write(c: Config, p: Past, n: Counters, q: Queue, i: usize, r: Request) -> Effect
-    requires { ⌜ Shaped (c .geometry) ⌝ }
-    ensures { λ e. ⌜ e ≡ writeOf c p n q i r ⌝ }
+fn write(i: usize, r: Request) -> Plan
+    ensures { λ e. ⌜ e ≡ writePlan i r ⌝ }
 {
     let bank = r.cell.bank;
     let column = r.cell.column;
-    let k = Command::Wrt(bank, column, r.halfword);
-    if device::legal(c, p, k) {
-        return written(p, n, q, i, r, k);
+    Plan {
+        command: Command::Wrt(bank, column, r.halfword),
+        here: Action::Access(i),
+        next: Action::Idle,
+        report: Report::Write(r.number),
+        leaves: Found::At(i),
+        refreshes: false,
     }
-    quiet(p, n, q, Command::Nop, Action::Access(i))
 }
 
 // The READ or the WRT.
-fn transfer(c: Config, p: Past, n: Counters, q: Queue, i: usize, r: Request, kind: Kind) -> Effect
-    requires { ⌜ Shaped (c .geometry) ⌝ }
-    ensures { λ e. ⌜ e ≡ transferOf c p n q i r kind ⌝ }
+fn transfer(c: Config, i: usize, r: Request, kind: Kind) -> Plan
+    ensures { λ e. ⌜ e ≡ transferPlan c i r kind ⌝ }
 {
     match kind {
-        Kind::Read => read(c, p, n, q, i, r),
-        Kind::Write => write(c, p, n, q, i, r),
+        Kind::Read => read(c, i, r),
+        Kind::Write => write(i, r),
     }
 }
 
 // The access's next command: PRE, ACT, or READ or WRT.
-fn access(c: Config, p: Past, n: Counters, q: Queue, i: usize) -> Effect
-    requires { ⌜ Shaped (c .geometry) ⌝ }
-    ensures { λ e. ⌜ e ≡ accessOf c p n q i ⌝ }
+fn access(c: Config, p: Past, q: Queue, i: usize) -> Plan
+    ensures { λ e. ⌜ e ≡ accessPlan c p q i ⌝ }
 {
     let r = q.get(i);
     let bank = r.cell.bank;
     let row = r.cell.row;
-    let b = device::bank_at(p, bank);
+    let b = tracker::bank_at(p, bank);
     let here = Action::Access(i);
     if b.opened {
         if b.row.0 == row.0 {
             let kind = r.kind;
-            return transfer(c, p, n, q, i, r, kind);
+            return transfer(c, i, r, kind);
         }
-        return send(c, p, n, q, Command::Pre(bank), here, here);
+        return plain(Command::Pre(bank), here, here);
     }
-    send(c, p, n, q, Command::Act(bank, row), here, here)
+    plain(Command::Act(bank, row), here, here)
 }
 
 // The slot of a read's halfword.
-fn taken(p: Past, n: Counters, q: Queue, i: usize, bus: u16) -> Effect
-    ensures { λ e. ⌜ e ≡ takenOf p n q i bus ⌝ }
+fn taken(i: usize, number: u32, bus: u16) -> Plan
+    ensures { λ e. ⌜ e ≡ takenPlan i number bus ⌝ }
 {
-    let number = q.get(i).number;
-    let past = device::sent(p, Command::Nop);
-    let rest = q.remove(i);
-    Effect {
-        past,
-        counters: n,
-        queue: rest,
-        action: Action::Turn,
+    Plan {
         command: Command::Nop,
+        here: Action::Turn,
+        next: Action::Turn,
         report: Report::Read(number, bus),
+        leaves: Found::At(i),
+        refreshes: false,
     }
 }
 
 // A slot after a READ.
-fn data_slot(p: Past, n: Counters, q: Queue, i: usize, left: u8, bus: u16) -> Effect
-    ensures { λ e. ⌜ e ≡ dataOf p n q i left bus ⌝ }
+fn data_slot(q: Queue, i: usize, left: u8, bus: u16) -> Plan
+    ensures { λ e. ⌜ e ≡ dataPlan q i left bus ⌝ }
 {
     if left <= 1 {
-        return taken(p, n, q, i, bus);
+        return taken(i, q.get(i).number, bus);
     }
-    quiet(p, n, q, Command::Nop, Action::Data(i, left - 1))
+    rest(Action::Data(i, left - 1))
 }
 
 // What is left of a refresh after the first of so many slots.
@@ -265,28 +266,31 @@ fn recovery(slots: u8) -> Action
 }
 
 // The REFR.
-fn refresh_slot(c: Config, p: Past, n: Counters, q: Queue) -> Effect
-    requires { ⌜ Shaped (c .geometry) ⌝ }
-    ensures { λ e. ⌜ e ≡ refreshOf c p n q ⌝ }
+fn refresh_slot(c: Config) -> Plan
+    ensures { λ e. ⌜ e ≡ refreshPlan c ⌝ }
 {
-    if device::legal(c, p, Command::Refr) {
-        return quiet(p, n.refreshed(), q, Command::Refr, recovery(c.rfc));
+    let next = recovery(c.rfc);
+    Plan {
+        command: Command::Refr,
+        here: Action::Refresh,
+        next,
+        report: Report::Nothing,
+        leaves: Found::Nothing,
+        refreshes: true,
     }
-    quiet(p, n, q, Command::Nop, Action::Refresh)
 }
 
-// What a slot does for an action; `bus` is the halfword that the bus carries in it.
-pub fn act(c: Config, p: Past, n: Counters, q: Queue, a: Action, bus: u16) -> Effect
-    requires { ⌜ Shaped (c .geometry) ⌝ }
-    ensures { λ r. ⌜ r ≡ actOf c p n q a bus ⌝ }
+// What a slot is to do for an action; `bus` is the halfword that the bus carries in it.
+pub fn planned(c: Config, p: Past, q: Queue, a: Action, bus: u16) -> Plan
+    ensures { λ r. ⌜ r ≡ planOf c p q a bus ⌝ }
 {
     match a {
-        Action::Idle => quiet(p, n, q, Command::Nop, Action::Idle),
-        Action::Access(i) => access(c, p, n, q, i),
-        Action::Data(i, left) => data_slot(p, n, q, i, left, bus),
-        Action::Turn => quiet(p, n, q, Command::Nop, Action::Idle),
-        Action::Close => send(c, p, n, q, Command::Deac, Action::Close, Action::Refresh),
-        Action::Refresh => refresh_slot(c, p, n, q),
-        Action::Recover(left) => quiet(p, n, q, Command::Nop, recovery(left)),
+        Action::Idle => rest(Action::Idle),
+        Action::Access(i) => access(c, p, q, i),
+        Action::Data(i, left) => data_slot(q, i, left, bus),
+        Action::Turn => rest(Action::Idle),
+        Action::Close => plain(Command::Deac, Action::Close, Action::Refresh),
+        Action::Refresh => refresh_slot(c),
+        Action::Recover(left) => rest(recovery(left)),
     }
 }

@@ -2,8 +2,8 @@
 use command::Command;
 use config::Config;
 use device::Past;
-ghost use Rattle.device.specs.Bounds.{Shaped};
-ghost use Rattle.startup.specs.Start.{isDone, firstStage, carried, tried, pausedOf, refreshedOf, startSlotOf};
+ghost use Rattle.startup.specs.Start.{isDone, firstStage, pausedOf, refreshedOf};
+ghost use Rattle.startup.specs.Trial.{trial, waitOf, trialOf, stageAfter};
 ghost use mathlib.Core.Path.{_≡_};
 
 // What comes next.
@@ -22,11 +22,19 @@ pub enum Stage {
     Done,
 }
 
-// A slot of the initialisation: what is known of the device after it, the next stage, and the slot's command.
+// A slot of the initialisation: what is known of the device after it, the next stage, and the slot's command. The definitions speak of it;
+// the code makes a trial instead.
 pub struct Started {
     pub past: Past,
     pub stage: Stage,
     pub command: Command,
+}
+
+// What a slot is to do: the command that it tries, and the stage after it where that is not sent and where it is.
+pub struct Trial {
+    pub command: Command,
+    pub here: Stage,
+    pub next: Stage,
 }
 
 // Have the service slots begun?
@@ -50,27 +58,22 @@ pub fn first_stage(c: Config) -> Stage
     Stage::Pause(8 * (c.rr as u32))
 }
 
-// A slot that carries k, and the stage after it.
-fn carried(p: Past, k: Command, next: Stage) -> Started
-    ensures { λ r. ⌜ r ≡ carried p k next ⌝ }
+// k in its first legal slot, and NOP until then.
+fn trying(k: Command, here: Stage, next: Stage) -> Trial
+    ensures { λ r. ⌜ r ≡ trial k here next ⌝ }
 {
-    let past = device::sent(p, k);
-    Started {
-        past,
-        stage: next,
+    Trial {
         command: k,
+        here,
+        next,
     }
 }
 
-// k in its first legal slot, and NOP until then.
-fn tried(c: Config, p: Past, k: Command, here: Stage, next: Stage) -> Started
-    requires { ⌜ Shaped (c .geometry) ⌝ }
-    ensures { λ r. ⌜ r ≡ tried c p k here next ⌝ }
+// A NOP, which is always sent.
+fn wait(next: Stage) -> Trial
+    ensures { λ r. ⌜ r ≡ waitOf next ⌝ }
 {
-    if device::legal(c, p, k) {
-        return carried(p, k, next);
-    }
-    carried(p, Command::Nop, here)
+    trying(Command::Nop, next, next)
 }
 
 // The stage after one of so many slots of the pause.
@@ -93,23 +96,30 @@ fn refreshed(count: u8) -> Stage
     Stage::Refresh(count - 1)
 }
 
-// One slot of the initialisation; where it is over, a NOP.
-pub fn start_slot(c: Config, p: Past, stage: Stage) -> Started
-    requires { ⌜ Shaped (c .geometry) ⌝ }
-    ensures { λ r. ⌜ r ≡ startSlotOf c p stage ⌝ }
+// What a slot of the initialisation is to do; where it is over, a NOP.
+pub fn tried(c: Config, stage: Stage) -> Trial
+    ensures { λ r. ⌜ r ≡ trialOf c stage ⌝ }
 {
     match stage {
-        Stage::Pause(n) => carried(p, Command::Nop, paused(n)),
-        Stage::Close => tried(c, p, Command::Deac, Stage::Close, Stage::Refresh(8)),
-        Stage::Refresh(n) => tried(c, p, Command::Refr, Stage::Refresh(n), refreshed(n)),
-        Stage::Mode => tried(
-            c,
-            p,
+        Stage::Pause(n) => wait(paused(n)),
+        Stage::Close => trying(Command::Deac, Stage::Close, Stage::Refresh(8)),
+        Stage::Refresh(n) => trying(Command::Refr, Stage::Refresh(n), refreshed(n)),
+        Stage::Mode => trying(
             Command::Mrs(16 * (c.latency as u16)),
             Stage::Mode,
             Stage::Settle,
         ),
-        Stage::Settle => carried(p, Command::Nop, Stage::Done),
-        Stage::Done => carried(p, Command::Nop, Stage::Done),
+        Stage::Settle => wait(Stage::Done),
+        Stage::Done => wait(Stage::Done),
     }
+}
+
+// The stage after a trial, where its command was sent and where it wasn't.
+pub fn stage_after(sent: bool, trial: Trial) -> Stage
+    ensures { λ r. ⌜ r ≡ stageAfter sent trial ⌝ }
+{
+    if sent {
+        return trial.next;
+    }
+    trial.here
 }

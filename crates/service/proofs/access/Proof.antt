@@ -1,8 +1,7 @@
--- The request, its bank's past and the two tests are the definition's.
 use borrow.Author.Needs.{needs}
 use Rattle.service.proofs.access.Statement.{statement}
 use Rattle.service.proofs.access.Tie as tie
-use Rattle.service.specs.Actions.{accessOf}
+use Rattle.service.specs.Plan.{accessPlan}
 use borrow.Author.Tests.{eq-eqb, ne-eqb}
 
 get-requires : tie.Need-get-requires
@@ -15,22 +14,22 @@ transfer-requires : tie.Need-transfer-requires
 transfer-requires c κs = search needs
 
 returns : tie.Need-returns
-unfolding accessOf
+unfolding accessPlan
 returns c = simp (← c .before .before .before .before .before .before .before .before .get .ensures, ← c .before .before .before .before .before .bank-at .ensures, c .before .before .before .before .if1 .taken, eq-eqb _ _ (c .before .if2 .taken), ← c .transfer .ensures)
 
-send-requires : tie.Need-send-requires
-send-requires c κs = search needs
+plain-requires : tie.Need-plain-requires
+plain-requires c κs = search needs
 
 returns-2 : tie.Need-returns-2
-unfolding accessOf
-returns-2 c = simp (← c .before .before .before .before .before .before .before .before .get .ensures, ← c .before .before .before .before .before .bank-at .ensures, c .before .before .before .before .if1 .taken, ne-eqb _ _ (c .before .if2 .left), ← c .send .ensures)
+unfolding accessPlan
+returns-2 c = simp (← c .before .before .before .before .before .before .before .before .get .ensures, ← c .before .before .before .before .before .bank-at .ensures, c .before .before .before .before .if1 .taken, ne-eqb _ _ (c .before .if2 .left), ← c .plain .ensures)
 
-send-requires-2 : tie.Need-send-requires-2
-send-requires-2 c κs = search needs
+plain-requires-2 : tie.Need-plain-requires-2
+plain-requires-2 c κs = search needs
 
 returns-3 : tie.Need-returns-3
-unfolding accessOf
-returns-3 c = simp (← c .before .before .before .before .before .get .ensures, ← c .before .before .bank-at .ensures, c .before .if1 .left, ← c .send2 .ensures)
+unfolding accessPlan
+returns-3 c = simp (← c .before .before .before .before .before .get .ensures, ← c .before .before .bank-at .ensures, c .before .if1 .left, ← c .plain2 .ensures)
 
 pub access-spec : {M : Type 1} → statement M
 access-spec =
@@ -40,7 +39,7 @@ access-spec =
     bank-at-requires
     transfer-requires
     returns
-    send-requires
+    plain-requires
     returns-2
-    send-requires-2
+    plain-requires-2
     returns-3)

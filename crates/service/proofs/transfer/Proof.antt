@@ -1,8 +1,7 @@
--- Each arm knows the kind.
 use borrow.Author.Needs.{needs}
 use Rattle.service.proofs.transfer.Statement.{statement}
 use Rattle.service.proofs.transfer.Tie as tie
-use Rattle.service.specs.Actions.{transferOf}
+use Rattle.service.specs.Plan.{transferPlan}
 
 enum-told : tie.Need-enum-told
 enum-told c = search needs
@@ -17,11 +16,11 @@ write-requires : tie.Need-write-requires
 write-requires c κs = search needs
 
 returns : tie.Need-returns
-unfolding transferOf
+unfolding transferPlan
 returns c = simp (c .before .enum-told .given .1, ← c .read .ensures)
 
 returns-2 : tie.Need-returns-2
-unfolding transferOf
+unfolding transferPlan
 returns-2 c = simp (c .before .enum-told2 .given .1, ← c .write .ensures)
 
 pub transfer-spec : {M : Type 1} → statement M

@@ -1,36 +1,36 @@
--- The test is whether an action is under way.
+-- The plan of the slot's action, carried out or put off, is the definition's slot.
 use borrow.Author.Needs.{needs}
-use Rattle.sequencer.specs.Machine.{serviceOf}
 use Rattle.sequencer.proofs.Machine.service.Statement.{statement}
 use Rattle.sequencer.proofs.Machine.service.Tie as tie
-
-is-idle-requires : tie.Need-is-idle-requires
-is-idle-requires c κs = search needs
+use Rattle.sequencer.proofs.Laws.{service-by-plan}
 
 urgency-requires : tie.Need-urgency-requires
 urgency-requires c κs = search needs
 
-begun-requires : tie.Need-begun-requires
-begun-requires c κs = search needs
+next-action-requires : tie.Need-next-action-requires
+next-action-requires c κs = search needs
+
+planned-requires : tie.Need-planned-requires
+planned-requires c κs = search needs
+
+next-run-requires : tie.Need-next-run-requires
+next-run-requires c κs = search needs
+
+served-requires : tie.Need-served-requires
+served-requires c κs = search needs
 
 returns : tie.Need-returns
-unfolding serviceOf
-returns c = simp (← c .before .before .before .is-idle .ensures, c .before .before .if1 .taken, ← c .before .urgency .ensures, ← c .begun .ensures)
-
-continued-requires : tie.Need-continued-requires
-continued-requires c κs = search needs
-
-returns-2 : tie.Need-returns-2
-unfolding serviceOf
-returns-2 c = simp (← c .before .before .is-idle .ensures, c .before .if1 .left, ← c .continued .ensures)
+returns c =
+    let a = c .before .before .before .before .before .before .before .before .args in
+    simp (← service-by-plan (a .self) (a .counters) (a .bus), ← c .before .before .before .before .before .before .before .urgency .ensures, ← c .before .before .before .before .before .before .next-action .ensures, ← c .before .before .planned .ensures, ← c .before .next-run .ensures, ← c .served .ensures)
 
 pub service-spec : {M : Type 1} → statement M
 service-spec =
     tie.close
     (tie.spec
-    is-idle-requires
     urgency-requires
-    begun-requires
-    returns
-    continued-requires
-    returns-2)
+    next-action-requires
+    planned-requires
+    next-run-requires
+    served-requires
+    returns)

@@ -1,8 +1,9 @@
 -- The test is whether the initialisation is done.
 use borrow.Author.Needs.{needs}
-use Rattle.sequencer.specs.Machine.{stepOf}
 use Rattle.sequencer.proofs.Machine.step.Statement.{statement}
 use Rattle.sequencer.proofs.Machine.step.Tie as tie
+use Rattle.startup.proofs.Laws.{trial-starts}
+use Rattle.sequencer.specs.Machine.{stepOf}
 
 is-done-requires : tie.Need-is-done-requires
 is-done-requires c κs = search needs
@@ -15,16 +16,10 @@ service-requires c κs = search needs
 
 returns : tie.Need-returns
 unfolding stepOf
-returns c =
-    simp (
-      ← c .before .before .before .before .is-done .ensures,
-      c .before .before .before .if1 .taken,
-      ← c .before .tick .ensures,
-      ← c .service .ensures,
-    )
+returns c = simp (← c .before .before .before .before .is-done .ensures, c .before .before .before .if1 .taken, ← c .before .tick .ensures, ← c .service .ensures)
 
-start-slot-requires : tie.Need-start-slot-requires
-start-slot-requires c κs = search needs
+tried-requires : tie.Need-tried-requires
+tried-requires c κs = search needs
 
 started-requires : tie.Need-started-requires
 started-requires c κs = search needs
@@ -32,12 +27,8 @@ started-requires c κs = search needs
 returns-2 : tie.Need-returns-2
 unfolding stepOf
 returns-2 c =
-    simp (
-      ← c .before .before .before .before .before .is-done .ensures,
-      c .before .before .before .before .if1 .left,
-      ← c .before .start-slot .ensures,
-      ← c .started .ensures,
-    )
+    let a = c .before .before .before .before .before .args in
+    simp (← trial-starts (a .self .config) (a .self .past) (a .self .stage), ← c .before .before .before .before .is-done .ensures, c .before .before .before .if1 .left, ← c .before .tried .ensures, ← c .started .ensures)
 
 pub step-spec : {M : Type 1} → statement M
 step-spec =
@@ -47,6 +38,6 @@ step-spec =
     tick-requires
     service-requires
     returns
-    start-slot-requires
+    tried-requires
     started-requires
     returns-2)
