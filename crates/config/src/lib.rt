@@ -1,8 +1,8 @@
 // Owns the register words: from document 01's four words to a configuration, or to one of the numbers 1, 2 and 3.
 ghost use mathlib.Core.Path.{_≡_};
-ghost use Prim.Native.Nat.{_<_, _^_, max};
+ghost use Prim.Native.Nat.{_<_, _≤_, _^_, max};
 ghost use Rattle.config.specs.Words.{bits, fieldOf, anySet, cfgReserved, rowReserved, refReserved, timReserved, reservedMap, reservedAll};
-ghost use Rattle.config.specs.Setting.{noConfig, offeredOf, geometryOf, configOf, tooShort, checkedOf, refusedOf, settingOf, mapNumberOf, accessSpan, refreshSpan};
+ghost use Rattle.config.specs.Setting.{noConfig, offeredOf, geometryOf, configOf, tooShort, checkedOf, refusedOf, settingOf, mapNumberOf, slots, accessSpan, refreshSpan};
 ghost use Rattle.config.specs.Accepted.{outsideOf, shapedOf, distancesOf, spannedOf, acceptedOf};
 
 // The device's shape: how many bits number its columns, banks and rows.
@@ -172,19 +172,39 @@ fn larger(a: u8, b: u8) -> u8
     a
 }
 
+// A distance of TIM in slots: its field and one more.
+fn slots(tim: u32, low: u32, width: u32) -> u8
+    requires { ⌜ (low < 32) × (width ≤ 5) ⌝ }
+    ensures { λ r. ⌜ r ≡ slots (fieldOf tim (bits low width)) ⌝ }
+{
+    field(tim, low, width) as u8 + 1
+}
+
+fn access_span(m: u8, rp: u8, rc: u8, rrd: u8, rcd: u8, latency: u8) -> u32
+    ensures { λ r. ⌜ r ≡ accessSpan m rp rc rrd rcd latency ⌝ }
+{
+    m as u32 + rp as u32 + rc as u32 + rrd as u32 + rcd as u32 + latency as u32 + 2
+}
+
+fn refresh_span(m: u8, rp: u8, rfc: u8) -> u32
+    ensures { λ r. ⌜ r ≡ refreshSpan m rp rfc ⌝ }
+{
+    m as u32 + rp as u32 + rfc as u32
+}
+
 // The configuration that the words describe, whether or not it is accepted.
 fn described(cfg: u32, row: u32, refr: u32, tim: u32) -> Config
     ensures { λ r. ⌜ r ≡ configOf cfg row refr tim ⌝ }
 {
     let geometry = shape(cfg, row);
     let latency = field(cfg, 9, 3) as u8;
-    let rfc = field(tim, 27, 5) as u8 + 1;
-    let rp = field(tim, 24, 3) as u8 + 1;
-    let rcd = field(tim, 20, 3) as u8 + 1;
-    let wr = field(tim, 16, 3) as u8 + 1;
-    let ras = field(tim, 12, 4) as u8 + 1;
-    let rc = field(tim, 8, 4) as u8 + 1;
-    let rrd = field(tim, 4, 3) as u8 + 1;
+    let rfc = slots(tim, 27, 5);
+    let rp = slots(tim, 24, 3);
+    let rcd = slots(tim, 20, 3);
+    let wr = slots(tim, 16, 3);
+    let ras = slots(tim, 12, 4);
+    let rc = slots(tim, 8, 4);
+    let rrd = slots(tim, 4, 3);
     let m = larger(ras, wr);
     Config {
         geometry,
@@ -197,8 +217,8 @@ fn described(cfg: u32, row: u32, refr: u32, tim: u32) -> Config
         rc,
         rrd,
         rr: field(refr, 0, 13) as u16,
-        access: m + rp + rc + rrd + rcd + latency + 2,
-        refresh: m + rp + rfc,
+        access: access_span(m, rp, rc, rrd, rcd, latency) as u8,
+        refresh: refresh_span(m, rp, rfc) as u8,
     }
 }
 
@@ -331,18 +351,6 @@ fn distances(c: Config) -> bool
         return false;
     }
     true
-}
-
-fn access_span(m: u8, rp: u8, rc: u8, rrd: u8, rcd: u8, latency: u8) -> u32
-    ensures { λ r. ⌜ r ≡ accessSpan m rp rc rrd rcd latency ⌝ }
-{
-    m as u32 + rp as u32 + rc as u32 + rrd as u32 + rcd as u32 + latency as u32 + 2
-}
-
-fn refresh_span(m: u8, rp: u8, rfc: u8) -> u32
-    ensures { λ r. ⌜ r ≡ refreshSpan m rp rfc ⌝ }
-{
-    m as u32 + rp as u32 + rfc as u32
 }
 
 // Are the spans those of the distances, and is the interval long enough?
