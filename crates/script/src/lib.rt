@@ -36,18 +36,14 @@ ghost use Rattle.script.specs.Output.{
   andNumber,
   andOne,
   andTwo,
-  begunOf,
-  pairLine,
   commandOf,
   reportOf,
-  configLine,
-  readLine,
-  writeLine,
+  begunOf,
+  numberLine,
+  pairLine,
   slotLine,
-  backlogLine,
   cellLine,
-  addressLine,
-  errorLine,
+  answerLine,
 };
 
 // One line of a script.
@@ -64,6 +60,20 @@ pub enum Call {
     // The standalone map: CFG, ROW and an address, or a cell.
     Cell(u32, u32, u32),
     Address(u32, u32, Cell),
+}
+
+// The answer to one line of a script: a number of document 01's table first, then what else the call gives.
+pub enum Answer {
+    Config(u8),
+    // The request's number.
+    Read(u8, u32),
+    Write(u8, u32),
+    Slot(u8, Command, Report),
+    Backlog(u8, u8),
+    Cell(ToCell),
+    Address(ToAddress),
+    // A line that is no call: its place in the script, counted from 1.
+    Wrong(u64),
 }
 
 // A number, as far as it has been read.
@@ -626,6 +636,13 @@ fn begun(letters: u64, n: u64) -> Text
     and_number(Text::empty().word(letters), n)
 }
 
+// A line of a word and a number.
+fn number_line(letters: u64, n: u64) -> Text
+    ensures { λ r. ⌜ r ≡ numberLine letters n ⌝ }
+{
+    begun(letters, n).byte(10)
+}
+
 // A line of a word and two numbers.
 fn pair_line(letters: u64, a: u64, b: u64) -> Text
     ensures { λ r. ⌜ r ≡ pairLine letters a b ⌝ }
@@ -633,37 +650,13 @@ fn pair_line(letters: u64, a: u64, b: u64) -> Text
     and_number(begun(letters, a), b).byte(10)
 }
 
-pub fn config_line(number: u8) -> Text
-    ensures { λ r. ⌜ r ≡ configLine number ⌝ }
-{
-    begun(CONFIG, number as u64).byte(10)
-}
-
-pub fn read_line(number: u8, request: u32) -> Text
-    ensures { λ r. ⌜ r ≡ readLine number request ⌝ }
-{
-    pair_line(READ, number as u64, request as u64)
-}
-
-pub fn write_line(number: u8, request: u32) -> Text
-    ensures { λ r. ⌜ r ≡ writeLine number request ⌝ }
-{
-    pair_line(WRITE, number as u64, request as u64)
-}
-
-pub fn slot_line(number: u8, command: Command, report: Report) -> Text
+fn slot_line(number: u8, command: Command, report: Report) -> Text
     ensures { λ r. ⌜ r ≡ slotLine number command report ⌝ }
 {
     and_report(and_command(begun(SLOT, number as u64), command), report).byte(10)
 }
 
-pub fn backlog_line(number: u8, backlog: u8) -> Text
-    ensures { λ r. ⌜ r ≡ backlogLine number backlog ⌝ }
-{
-    pair_line(BACKLOG, number as u64, backlog as u64)
-}
-
-pub fn cell_line(answer: ToCell) -> Text
+fn cell_line(answer: ToCell) -> Text
     ensures { λ r. ⌜ r ≡ cellLine answer ⌝ }
 {
     let cell = answer.cell;
@@ -671,15 +664,24 @@ pub fn cell_line(answer: ToCell) -> Text
     and_number(and_number(bank, cell.row.0 as u64), cell.column.0 as u64).byte(10)
 }
 
-pub fn address_line(answer: ToAddress) -> Text
-    ensures { λ r. ⌜ r ≡ addressLine answer ⌝ }
-{
-    pair_line(ADDRESS, answer.number as u64, answer.address as u64)
-}
-
-// For a line that is no call.
-pub fn error_line(line: u64) -> Text
-    ensures { λ r. ⌜ r ≡ errorLine line ⌝ }
-{
-    begun(ERROR, line).byte(10)
+impl Answer {
+    // The line that is written for it.
+    pub fn line(self) -> Text
+        ensures { λ r. ⌜ r ≡ answerLine self ⌝ }
+    {
+        match self {
+            Answer::Config(number) => number_line(CONFIG, number as u64),
+            Answer::Read(number, request) => pair_line(READ, number as u64, request as u64),
+            Answer::Write(number, request) => pair_line(WRITE, number as u64, request as u64),
+            Answer::Slot(number, command, report) => slot_line(number, command, report),
+            Answer::Backlog(number, backlog) => pair_line(BACKLOG, number as u64, backlog as u64),
+            Answer::Cell(answer) => cell_line(answer),
+            Answer::Address(answer) => pair_line(
+                ADDRESS,
+                answer.number as u64,
+                answer.address as u64,
+            ),
+            Answer::Wrong(line) => number_line(ERROR, line),
+        }
+    }
 }
