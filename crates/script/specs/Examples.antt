@@ -47,6 +47,7 @@ use Rattle.script.specs.Line.{
   slotCall,
   backlogCall,
   cellCall,
+  placeCall,
   addressCall,
   callOf,
   noLine,
@@ -139,7 +140,7 @@ lines =
     ∷ []
 
 read-lines : map (λ (l : Line). parsed (l .text)) lines ≡ map (λ (l : Line). l .call) lines
-unfolding digitOf joinedOf moreDecimal moreHex firstByte afterZero numberOf valueOf noWords ruinedOf letterOf figureOf storedOf nextOf wordsOf configCall readCall writeCall slotCall backlogCall cellCall addressCall callOf noLine takeOf lineCall readFrom parsed
+unfolding digitOf joinedOf moreDecimal moreHex firstByte afterZero numberOf valueOf noWords ruinedOf letterOf figureOf storedOf nextOf wordsOf configCall readCall writeCall slotCall backlogCall cellCall placeCall addressCall callOf noLine takeOf lineCall readFrom parsed
 read-lines = refl
 
 pub record Written : Type 0 where

@@ -25,6 +25,7 @@ ghost use Rattle.script.specs.Line.{
   slotCall,
   backlogCall,
   cellCall,
+  placeCall,
   addressCall,
   callOf,
   noLine,
@@ -259,6 +260,27 @@ impl Number {
     }
 }
 
+// The call that asks for the address of a cell, from its five numbers.
+fn place(cfg: u32, geometry: u32, bank: u32, row: u32, column: u32) -> Call
+    ensures { λ r. ⌜ r ≡ placeCall cfg geometry bank row column ⌝ }
+{
+    if 255 < bank {
+        return Call::Wrong;
+    }
+    if 65535 < row {
+        return Call::Wrong;
+    }
+    if 65535 < column {
+        return Call::Wrong;
+    }
+    let cell = Cell {
+        bank: Bank(bank as u8),
+        row: Row(row as u16),
+        column: Column(column as u16),
+    };
+    Call::Address(cfg, geometry, cell)
+}
+
 impl Words {
     // No byte yet.
     fn none() -> Words
@@ -457,25 +479,8 @@ impl Words {
         ensures { λ r. ⌜ r ≡ addressCall self ⌝ }
     {
         let n = self.given;
-        let bank = n[2];
-        let row = n[3];
-        let column = n[4];
-        if 255 < bank {
-            return Call::Wrong;
-        }
-        if 65535 < row {
-            return Call::Wrong;
-        }
-        if 65535 < column {
-            return Call::Wrong;
-        }
         if self.at == 6 {
-            let cell = Cell {
-                bank: Bank(bank as u8),
-                row: Row(row as u16),
-                column: Column(column as u16),
-            };
-            return Call::Address(n[0], n[1], cell);
+            return place(n[0], n[1], n[2], n[3], n[4]);
         }
         Call::Wrong
     }
@@ -487,28 +492,17 @@ impl Words {
         if self.wrong {
             return Call::Wrong;
         }
-        if self.name == CONFIG {
-            return self.config();
+        let name = self.name;
+        match name {
+            CONFIG => self.config(),
+            READ => self.read(),
+            WRITE => self.write(),
+            SLOT => self.slot(),
+            BACKLOG => self.backlog(),
+            CELL => self.cell(),
+            ADDRESS => self.address(),
+            _ => Call::Wrong,
         }
-        if self.name == READ {
-            return self.read();
-        }
-        if self.name == WRITE {
-            return self.write();
-        }
-        if self.name == SLOT {
-            return self.slot();
-        }
-        if self.name == BACKLOG {
-            return self.backlog();
-        }
-        if self.name == CELL {
-            return self.cell();
-        }
-        if self.name == ADDRESS {
-            return self.address();
-        }
-        Call::Wrong
     }
 }
 
@@ -599,18 +593,22 @@ fn and_two(text: Text, letters: u64, a: u64, b: u64) -> Text
     and_number(and_one(text, letters, a), b)
 }
 
+// A command's word, a bank, and the number of a row or a column.
+fn and_place(text: Text, letters: u64, bank: Bank, n: u16) -> Text
+    ensures { λ r. ⌜ r ≡ andTwo text letters (bank .0) n ⌝ }
+{
+    and_two(text, letters, bank.0 as u64, n as u64)
+}
+
 fn and_command(text: Text, command: Command) -> Text
     ensures { λ r. ⌜ r ≡ commandOf text command ⌝ }
 {
     match command {
         Command::Nop => and_word(text, NOP),
-        Command::Act(bank, row) => and_two(text, ACT, bank.0 as u64, row.0 as u64),
-        Command::Read(bank, column) => and_two(text, READ_COMMAND, bank.0 as u64, column.0 as u64),
+        Command::Act(bank, row) => and_place(text, ACT, bank, row.0),
+        Command::Read(bank, column) => and_place(text, READ_COMMAND, bank, column.0),
         Command::Wrt(bank, column, halfword) => {
-            and_number(
-                and_two(text, WRT, bank.0 as u64, column.0 as u64),
-                halfword as u64,
-            )
+            and_number(and_place(text, WRT, bank, column.0), halfword as u64)
         }
         Command::Pre(bank) => and_one(text, PRE, bank.0 as u64),
         Command::Deac => and_word(text, DEAC),
@@ -644,10 +642,10 @@ fn number_line(letters: u64, n: u64) -> Text
 }
 
 // A line of a word and two numbers.
-fn pair_line(letters: u64, a: u64, b: u64) -> Text
+fn pair_line(letters: u64, a: u8, b: u32) -> Text
     ensures { λ r. ⌜ r ≡ pairLine letters a b ⌝ }
 {
-    and_number(begun(letters, a), b).byte(10)
+    and_number(begun(letters, a as u64), b as u64).byte(10)
 }
 
 fn slot_line(number: u8, command: Command, report: Report) -> Text
@@ -671,16 +669,12 @@ impl Answer {
     {
         match self {
             Answer::Config(number) => number_line(CONFIG, number as u64),
-            Answer::Read(number, request) => pair_line(READ, number as u64, request as u64),
-            Answer::Write(number, request) => pair_line(WRITE, number as u64, request as u64),
+            Answer::Read(number, request) => pair_line(READ, number, request),
+            Answer::Write(number, request) => pair_line(WRITE, number, request),
             Answer::Slot(number, command, report) => slot_line(number, command, report),
-            Answer::Backlog(number, backlog) => pair_line(BACKLOG, number as u64, backlog as u64),
+            Answer::Backlog(number, backlog) => pair_line(BACKLOG, number, backlog as u32),
             Answer::Cell(answer) => cell_line(answer),
-            Answer::Address(answer) => pair_line(
-                ADDRESS,
-                answer.number as u64,
-                answer.address as u64,
-            ),
+            Answer::Address(answer) => pair_line(ADDRESS, answer.number, answer.address),
             Answer::Wrong(line) => number_line(ERROR, line),
         }
     }

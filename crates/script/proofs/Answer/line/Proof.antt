@@ -16,23 +16,11 @@ number-line-requires c κs = search needs
 enum-known-self-2 : tie.Need-enum-known-self-2
 enum-known-self-2 c = search needs
 
-cast-pair-line : tie.Need-cast-pair-line
-cast-pair-line c = search needs
-
-cast-pair-line-2 : tie.Need-cast-pair-line-2
-cast-pair-line-2 c = search needs
-
 pair-line-requires : tie.Need-pair-line-requires
 pair-line-requires c κs = search needs
 
 enum-known-self-3 : tie.Need-enum-known-self-3
 enum-known-self-3 c = search needs
-
-cast-pair-line-3 : tie.Need-cast-pair-line-3
-cast-pair-line-3 c = search needs
-
-cast-pair-line-4 : tie.Need-cast-pair-line-4
-cast-pair-line-4 c = search needs
 
 pair-line-requires-2 : tie.Need-pair-line-requires-2
 pair-line-requires-2 c κs = search needs
@@ -46,11 +34,8 @@ slot-line-requires c κs = search needs
 enum-known-self-5 : tie.Need-enum-known-self-5
 enum-known-self-5 c = search needs
 
-cast-pair-line-5 : tie.Need-cast-pair-line-5
-cast-pair-line-5 c = search needs
-
-cast-pair-line-6 : tie.Need-cast-pair-line-6
-cast-pair-line-6 c = search needs
+cast-pair-line : tie.Need-cast-pair-line
+cast-pair-line c = search needs
 
 pair-line-requires-3 : tie.Need-pair-line-requires-3
 pair-line-requires-3 c κs = search needs
@@ -63,12 +48,6 @@ cell-line-requires c κs = search needs
 
 enum-known-self-7 : tie.Need-enum-known-self-7
 enum-known-self-7 c = search needs
-
-cast-pair-line-7 : tie.Need-cast-pair-line-7
-cast-pair-line-7 c = search needs
-
-cast-pair-line-8 : tie.Need-cast-pair-line-8
-cast-pair-line-8 c = search needs
 
 pair-line-requires-4 : tie.Need-pair-line-requires-4
 pair-line-requires-4 c κs = search needs
@@ -105,7 +84,7 @@ returns-6 c = simp (c .before .before .self6 .given .1, ← c .cell-line .ensure
 
 returns-7 : tie.Need-returns-7
 unfolding answerLine
-returns-7 c = simp (c .before .before .before .before .self7 .given .1, ← c .pair-line4 .ensures)
+returns-7 c = simp (c .before .before .self7 .given .1, ← c .pair-line4 .ensures)
 
 returns-8 : tie.Need-returns-8
 unfolding answerLine
@@ -119,24 +98,17 @@ line-spec =
     cast-number-line
     number-line-requires
     enum-known-self-2
-    cast-pair-line
-    cast-pair-line-2
     pair-line-requires
     enum-known-self-3
-    cast-pair-line-3
-    cast-pair-line-4
     pair-line-requires-2
     enum-known-self-4
     slot-line-requires
     enum-known-self-5
-    cast-pair-line-5
-    cast-pair-line-6
+    cast-pair-line
     pair-line-requires-3
     enum-known-self-6
     cell-line-requires
     enum-known-self-7
-    cast-pair-line-7
-    cast-pair-line-8
     pair-line-requires-4
     enum-known-self-8
     number-line-requires-2
