@@ -94,23 +94,23 @@ pub enum Number {
 // The words of a line, as far as they have been read.
 pub struct Words {
     // Is it known that the line is no call?
-    pub wrong: bool,
+    wrong: bool,
     // The first word, in the form that Text::word takes.
-    pub name: u64,
+    name: u64,
     // Which word is under way, 0 for the name.
-    pub at: usize,
+    at: usize,
     // The number under way, and the numbers before it.
-    pub number: Number,
-    pub given: [u32; 5],
+    number: Number,
+    given: [u32; 5],
 }
 
 // A line, as far as it has been read.
 pub struct Line {
     // How many bytes; 256 for more than 255.
-    pub size: u16,
+    size: u16,
     // Does it begin with #?
-    pub comment: bool,
-    pub words: Words,
+    comment: bool,
+    words: Words,
 }
 
 // Stands for no number: more than 32 bits hold.
