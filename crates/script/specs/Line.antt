@@ -94,14 +94,13 @@ backlogCall w = cond (eqb (w .at) 1) Backlog Wrong
 unfoldable pub cellCall : Words → Call
 cellCall w = cond (eqb (w .at) 4) (Cell (nth w 0) (nth w 1) (nth w 2)) Wrong
 
--- from CFG, ROW and the cell's bank, row and column
+-- CFG ROW BANK ROWNUMBER COLUMN
 unfoldable pub placeCall : ℕ → ℕ → ℕ → ℕ → ℕ → Call
-placeCall cfg geometry b r c =
+placeCall cfg row b r c =
     cond (ltb 255 b) Wrong
     (cond (ltb 65535 r) Wrong
     (cond (ltb 65535 c) Wrong
-    (Address cfg geometry
-    (record { bank = record { 0 = b }; row = record { 0 = r }; column = record { 0 = c } }))))
+    (Address cfg row (record { bank = record { 0 = b }; row = record { 0 = r }; column = record { 0 = c } }))))
 
 unfoldable pub addressCall : Words → Call
 addressCall w =

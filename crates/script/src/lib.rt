@@ -12,7 +12,6 @@ ghost use mathlib.Core.Path.{_≡_};
 ghost use Prim.Native.Nat.{_<_};
 ghost use Rattle.script.specs.Number.{digitOf, joinedOf, moreDecimal, moreHex, firstByte, afterZero, numberOf, valueOf};
 ghost use Rattle.script.specs.Line.{
-  noWords,
   ruinedOf,
   letterOf,
   figureOf,
@@ -63,10 +62,10 @@ pub enum Call {
     Address(u32, u32, Cell),
 }
 
-// The answer to one line of a script: a number of document 01's table first, then what else the call gives.
+// The answer to one line of a script. A call's answer has a number of document 01's table first.
 pub enum Answer {
     Config(u8),
-    // The request's number.
+    // And the request's number.
     Read(u8, u32),
     Write(u8, u32),
     Slot(u8, Command, Report),
@@ -260,14 +259,14 @@ impl Number {
     }
 }
 
-// The call that asks for the address of a cell, from its five numbers.
-fn place(cfg: u32, geometry: u32, bank: u32, row: u32, column: u32) -> Call
-    ensures { λ r. ⌜ r ≡ placeCall cfg geometry bank row column ⌝ }
+// The call `address`, from its five numbers.
+fn place(cfg: u32, row: u32, bank: u32, rownumber: u32, column: u32) -> Call
+    ensures { λ r. ⌜ r ≡ placeCall cfg row bank rownumber column ⌝ }
 {
     if 255 < bank {
         return Call::Wrong;
     }
-    if 65535 < row {
+    if 65535 < rownumber {
         return Call::Wrong;
     }
     if 65535 < column {
@@ -275,27 +274,13 @@ fn place(cfg: u32, geometry: u32, bank: u32, row: u32, column: u32) -> Call
     }
     let cell = Cell {
         bank: Bank(bank as u8),
-        row: Row(row as u16),
+        row: Row(rownumber as u16),
         column: Column(column as u16),
     };
-    Call::Address(cfg, geometry, cell)
+    Call::Address(cfg, row, cell)
 }
 
 impl Words {
-    // No byte yet.
-    fn none() -> Words
-        ensures { λ r. ⌜ r ≡ noWords ⌝ }
-    {
-        let given = [0; 5];
-        Words {
-            wrong: false,
-            name: 0,
-            at: 0,
-            number: Number::Empty,
-            given,
-        }
-    }
-
     // The line is no call.
     fn ruined(self) -> Words
         ensures { λ r. ⌜ r ≡ ruinedOf self ⌝ }
@@ -511,7 +496,14 @@ impl Line {
     pub fn empty() -> Line
         ensures { λ r. ⌜ r ≡ noLine ⌝ }
     {
-        let words = Words::none();
+        let given = [0; 5];
+        let words = Words {
+            wrong: false,
+            name: 0,
+            at: 0,
+            number: Number::Empty,
+            given,
+        };
         Line {
             size: 0,
             comment: false,
