@@ -2,6 +2,7 @@
 use address::Cell;
 use libc::STDIN_FILENO;
 use libc::STDOUT_FILENO;
+use script::Answer;
 use script::Call;
 use script::Line;
 use sequencer::Machine;
@@ -35,21 +36,21 @@ struct Run {
 
 fn configure(cfg: u32, row: u32, refr: u32, tim: u32) -> Played {
     let answer = Machine::configure(cfg, row, refr, tim);
-    let text = script::config_line(answer.number);
+    let text = Answer::Config(answer.number).line();
     let machine = answer.machine;
     Played { machine, text }
 }
 
 fn read(before: Machine, address: u32) -> Played {
     let answer = before.read(address);
-    let text = script::read_line(answer.number, answer.request);
+    let text = Answer::Read(answer.number, answer.request).line();
     let machine = answer.machine;
     Played { machine, text }
 }
 
 fn write(before: Machine, address: u32, halfword: u16) -> Played {
     let answer = before.write(address, halfword);
-    let text = script::write_line(answer.number, answer.request);
+    let text = Answer::Write(answer.number, answer.request).line();
     let machine = answer.machine;
     Played { machine, text }
 }
@@ -58,24 +59,24 @@ fn slot(before: Machine, bus: u16) -> Played {
     let answer = before.slot(bus);
     let command = answer.command;
     let report = answer.report;
-    let text = script::slot_line(answer.number, command, report);
+    let text = Answer::Slot(answer.number, command, report).line();
     let machine = answer.machine;
     Played { machine, text }
 }
 
 fn backlog(machine: Machine) -> Played {
     let answer = machine.backlog();
-    let text = script::backlog_line(answer.number, answer.backlog);
+    let text = Answer::Backlog(answer.number, answer.backlog).line();
     Played { machine, text }
 }
 
 fn cell(machine: Machine, cfg: u32, row: u32, address: u32) -> Played {
-    let text = script::cell_line(address::to_cell(cfg, row, address));
+    let text = Answer::Cell(address::to_cell(cfg, row, address)).line();
     Played { machine, text }
 }
 
 fn address_of(machine: Machine, cfg: u32, row: u32, cell: Cell) -> Played {
-    let text = script::address_line(address::to_address(cfg, row, cell));
+    let text = Answer::Address(address::to_address(cfg, row, cell)).line();
     Played { machine, text }
 }
 
@@ -85,7 +86,7 @@ fn nothing(machine: Machine) -> Played {
 }
 
 fn wrong(machine: Machine, number: u64) -> Played {
-    let text = script::error_line(number);
+    let text = Answer::Wrong(number).line();
     Played { machine, text }
 }
 

@@ -94,15 +94,17 @@ backlogCall w = cond (eqb (w .at) 1) Backlog Wrong
 unfoldable pub cellCall : Words → Call
 cellCall w = cond (eqb (w .at) 4) (Cell (nth w 0) (nth w 1) (nth w 2)) Wrong
 
+-- CFG ROW BANK ROWNUMBER COLUMN
+unfoldable pub placeCall : ℕ → ℕ → ℕ → ℕ → ℕ → Call
+placeCall cfg row b r c =
+    cond (ltb 255 b) Wrong
+    (cond (ltb 65535 r) Wrong
+    (cond (ltb 65535 c) Wrong
+    (Address cfg row (record { bank = record { 0 = b }; row = record { 0 = r }; column = record { 0 = c } }))))
+
 unfoldable pub addressCall : Words → Call
 addressCall w =
-    cond (ltb 255 (nth w 2)) Wrong
-    (cond (ltb 65535 (nth w 3)) Wrong
-    (cond (ltb 65535 (nth w 4)) Wrong
-    (cond (eqb (w .at) 6)
-    (Address (nth w 0) (nth w 1)
-    (record { bank = record { 0 = nth w 2 }; row = record { 0 = nth w 3 }; column = record { 0 = nth w 4 } }))
-    Wrong)))
+    cond (eqb (w .at) 6) (placeCall (nth w 0) (nth w 1) (nth w 2) (nth w 3) (nth w 4)) Wrong
 
 -- the call that the words make, the last one ended
 unfoldable pub callOf : Words → Call

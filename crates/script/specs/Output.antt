@@ -5,9 +5,20 @@ use Rattle.text.specs.Spelling.{letters, emptyOf, byteOf, wordOf, decimalOf}
 use Rattle.address.specs.declared.ToCell.{ToCell}
 use Rattle.address.specs.declared.ToAddress.{ToAddress}
 use Rattle.command.specs.declared.Command.{Command}
-use Rattle.command.specs.declared.Command.the-variants.{Nop, Act, Read, Wrt, Pre, Deac, Refr, Mrs}
+use Rattle.command.specs.declared.Command.the-variants.{Nop, Act, Wrt, Pre, Deac, Refr, Mrs, Read as Fetch}
 use Rattle.service.specs.declared.Report.{Report}
 use Rattle.service.specs.declared.Report.the-variants.{Nothing, Read as ReadDone, Write as WriteDone}
+use Rattle.script.specs.declared.Answer.{Answer}
+use Rattle.script.specs.declared.Answer.the-variants.{
+  Config,
+  Read,
+  Write,
+  Slot,
+  Backlog,
+  Cell,
+  Address,
+  Wrong,
+}
 
 unfoldable pub andWord : Text → ℕ → Text
 andWord t w = wordOf (byteOf t 32) w
@@ -25,7 +36,7 @@ andTwo t w a b = andNumber (andOne t w a) b
 unfoldable pub commandOf : Text → Command → Text
 commandOf t Nop = andWord t (letters "NOP")
 commandOf t (Act b r) = andTwo t (letters "ACT") (b .0) (r .0)
-commandOf t (Read b c) = andTwo t (letters "READ") (b .0) (c .0)
+commandOf t (Fetch b c) = andTwo t (letters "READ") (b .0) (c .0)
 commandOf t (Wrt b c h) = andNumber (andTwo t (letters "WRT") (b .0) (c .0)) h
 commandOf t (Pre b) = andOne t (letters "PRE") (b .0)
 commandOf t Deac = andWord t (letters "DEAC")
@@ -42,26 +53,16 @@ reportOf t (WriteDone n) = andOne t (letters "write") n
 unfoldable pub begunOf : ℕ → ℕ → Text
 begunOf w n = andNumber (wordOf emptyOf w) n
 
+-- a line of a word and a number
+unfoldable pub numberLine : ℕ → ℕ → Text
+numberLine w n = byteOf (begunOf w n) 10
+
 -- a line of a word and two numbers
 unfoldable pub pairLine : ℕ → ℕ → ℕ → Text
 pairLine w a b = byteOf (andNumber (begunOf w a) b) 10
 
--- The lines, each with the numbers that its call answers.
-
-unfoldable pub configLine : ℕ → Text
-configLine n = byteOf (begunOf (letters "config") n) 10
-
-unfoldable pub readLine : ℕ → ℕ → Text
-readLine n r = pairLine (letters "read") n r
-
-unfoldable pub writeLine : ℕ → ℕ → Text
-writeLine n r = pairLine (letters "write") n r
-
 unfoldable pub slotLine : ℕ → Command → Report → Text
 slotLine n c r = byteOf (reportOf (commandOf (begunOf (letters "slot") n) c) r) 10
-
-unfoldable pub backlogLine : ℕ → ℕ → Text
-backlogLine n b = pairLine (letters "backlog") n b
 
 unfoldable pub cellLine : ToCell → Text
 cellLine a =
@@ -71,8 +72,13 @@ cellLine a =
     (a .cell .column .0))
     10
 
-unfoldable pub addressLine : ToAddress → Text
-addressLine a = pairLine (letters "address") (a .number) (a .address)
-
-unfoldable pub errorLine : ℕ → Text
-errorLine n = byteOf (begunOf (letters "error") n) 10
+-- the line of an answer
+unfoldable pub answerLine : Answer → Text
+answerLine (Config n) = numberLine (letters "config") n
+answerLine (Read n r) = pairLine (letters "read") n r
+answerLine (Write n r) = pairLine (letters "write") n r
+answerLine (Slot n c r) = slotLine n c r
+answerLine (Backlog n b) = pairLine (letters "backlog") n b
+answerLine (Cell a) = cellLine a
+answerLine (Address a) = pairLine (letters "address") (a .number) (a .address)
+answerLine (Wrong n) = numberLine (letters "error") n

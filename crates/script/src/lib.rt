@@ -12,7 +12,6 @@ ghost use mathlib.Core.Path.{_≡_};
 ghost use Prim.Native.Nat.{_<_};
 ghost use Rattle.script.specs.Number.{digitOf, joinedOf, moreDecimal, moreHex, firstByte, afterZero, numberOf, valueOf};
 ghost use Rattle.script.specs.Line.{
-  noWords,
   ruinedOf,
   letterOf,
   figureOf,
@@ -25,6 +24,7 @@ ghost use Rattle.script.specs.Line.{
   slotCall,
   backlogCall,
   cellCall,
+  placeCall,
   addressCall,
   callOf,
   noLine,
@@ -36,18 +36,14 @@ ghost use Rattle.script.specs.Output.{
   andNumber,
   andOne,
   andTwo,
-  begunOf,
-  pairLine,
   commandOf,
   reportOf,
-  configLine,
-  readLine,
-  writeLine,
+  begunOf,
+  numberLine,
+  pairLine,
   slotLine,
-  backlogLine,
   cellLine,
-  addressLine,
-  errorLine,
+  answerLine,
 };
 
 // One line of a script.
@@ -64,6 +60,20 @@ pub enum Call {
     // The standalone map: CFG, ROW and an address, or a cell.
     Cell(u32, u32, u32),
     Address(u32, u32, Cell),
+}
+
+// The answer to one line of a script. A call's answer has a number of document 01's table first.
+pub enum Answer {
+    Config(u8),
+    // And the request's number.
+    Read(u8, u32),
+    Write(u8, u32),
+    Slot(u8, Command, Report),
+    Backlog(u8, u8),
+    Cell(ToCell),
+    Address(ToAddress),
+    // A line that is no call: its place in the script, counted from 1.
+    Wrong(u64),
 }
 
 // A number, as far as it has been read.
@@ -83,23 +93,23 @@ pub enum Number {
 // The words of a line, as far as they have been read.
 pub struct Words {
     // Is it known that the line is no call?
-    pub wrong: bool,
+    wrong: bool,
     // The first word, in the form that Text::word takes.
-    pub name: u64,
+    name: u64,
     // Which word is under way, 0 for the name.
-    pub at: usize,
+    at: usize,
     // The number under way, and the numbers before it.
-    pub number: Number,
-    pub given: [u32; 5],
+    number: Number,
+    given: [u32; 5],
 }
 
 // A line, as far as it has been read.
 pub struct Line {
     // How many bytes; 256 for more than 255.
-    pub size: u16,
+    size: u16,
     // Does it begin with #?
-    pub comment: bool,
-    pub words: Words,
+    comment: bool,
+    words: Words,
 }
 
 // Stands for no number: more than 32 bits hold.
@@ -249,21 +259,28 @@ impl Number {
     }
 }
 
-impl Words {
-    // No byte yet.
-    fn none() -> Words
-        ensures { λ r. ⌜ r ≡ noWords ⌝ }
-    {
-        let given = [0; 5];
-        Words {
-            wrong: false,
-            name: 0,
-            at: 0,
-            number: Number::Empty,
-            given,
-        }
+// The call `address`, from its five numbers.
+fn place(cfg: u32, row: u32, bank: u32, rownumber: u32, column: u32) -> Call
+    ensures { λ r. ⌜ r ≡ placeCall cfg row bank rownumber column ⌝ }
+{
+    if 255 < bank {
+        return Call::Wrong;
     }
+    if 65535 < rownumber {
+        return Call::Wrong;
+    }
+    if 65535 < column {
+        return Call::Wrong;
+    }
+    let cell = Cell {
+        bank: Bank(bank as u8),
+        row: Row(rownumber as u16),
+        column: Column(column as u16),
+    };
+    Call::Address(cfg, row, cell)
+}
 
+impl Words {
     // The line is no call.
     fn ruined(self) -> Words
         ensures { λ r. ⌜ r ≡ ruinedOf self ⌝ }
@@ -447,25 +464,8 @@ impl Words {
         ensures { λ r. ⌜ r ≡ addressCall self ⌝ }
     {
         let n = self.given;
-        let bank = n[2];
-        let row = n[3];
-        let column = n[4];
-        if 255 < bank {
-            return Call::Wrong;
-        }
-        if 65535 < row {
-            return Call::Wrong;
-        }
-        if 65535 < column {
-            return Call::Wrong;
-        }
         if self.at == 6 {
-            let cell = Cell {
-                bank: Bank(bank as u8),
-                row: Row(row as u16),
-                column: Column(column as u16),
-            };
-            return Call::Address(n[0], n[1], cell);
+            return place(n[0], n[1], n[2], n[3], n[4]);
         }
         Call::Wrong
     }
@@ -477,28 +477,17 @@ impl Words {
         if self.wrong {
             return Call::Wrong;
         }
-        if self.name == CONFIG {
-            return self.config();
+        let name = self.name;
+        match name {
+            CONFIG => self.config(),
+            READ => self.read(),
+            WRITE => self.write(),
+            SLOT => self.slot(),
+            BACKLOG => self.backlog(),
+            CELL => self.cell(),
+            ADDRESS => self.address(),
+            _ => Call::Wrong,
         }
-        if self.name == READ {
-            return self.read();
-        }
-        if self.name == WRITE {
-            return self.write();
-        }
-        if self.name == SLOT {
-            return self.slot();
-        }
-        if self.name == BACKLOG {
-            return self.backlog();
-        }
-        if self.name == CELL {
-            return self.cell();
-        }
-        if self.name == ADDRESS {
-            return self.address();
-        }
-        Call::Wrong
     }
 }
 
@@ -507,7 +496,14 @@ impl Line {
     pub fn empty() -> Line
         ensures { λ r. ⌜ r ≡ noLine ⌝ }
     {
-        let words = Words::none();
+        let given = [0; 5];
+        let words = Words {
+            wrong: false,
+            name: 0,
+            at: 0,
+            number: Number::Empty,
+            given,
+        };
         Line {
             size: 0,
             comment: false,
@@ -589,18 +585,22 @@ fn and_two(text: Text, letters: u64, a: u64, b: u64) -> Text
     and_number(and_one(text, letters, a), b)
 }
 
+// A command's word, a bank, and the number of a row or a column.
+fn and_place(text: Text, letters: u64, bank: Bank, n: u16) -> Text
+    ensures { λ r. ⌜ r ≡ andTwo text letters (bank .0) n ⌝ }
+{
+    and_two(text, letters, bank.0 as u64, n as u64)
+}
+
 fn and_command(text: Text, command: Command) -> Text
     ensures { λ r. ⌜ r ≡ commandOf text command ⌝ }
 {
     match command {
         Command::Nop => and_word(text, NOP),
-        Command::Act(bank, row) => and_two(text, ACT, bank.0 as u64, row.0 as u64),
-        Command::Read(bank, column) => and_two(text, READ_COMMAND, bank.0 as u64, column.0 as u64),
+        Command::Act(bank, row) => and_place(text, ACT, bank, row.0),
+        Command::Read(bank, column) => and_place(text, READ_COMMAND, bank, column.0),
         Command::Wrt(bank, column, halfword) => {
-            and_number(
-                and_two(text, WRT, bank.0 as u64, column.0 as u64),
-                halfword as u64,
-            )
+            and_number(and_place(text, WRT, bank, column.0), halfword as u64)
         }
         Command::Pre(bank) => and_one(text, PRE, bank.0 as u64),
         Command::Deac => and_word(text, DEAC),
@@ -626,44 +626,27 @@ fn begun(letters: u64, n: u64) -> Text
     and_number(Text::empty().word(letters), n)
 }
 
+// A line of a word and a number.
+fn number_line(letters: u64, n: u64) -> Text
+    ensures { λ r. ⌜ r ≡ numberLine letters n ⌝ }
+{
+    begun(letters, n).byte(10)
+}
+
 // A line of a word and two numbers.
-fn pair_line(letters: u64, a: u64, b: u64) -> Text
+fn pair_line(letters: u64, a: u8, b: u32) -> Text
     ensures { λ r. ⌜ r ≡ pairLine letters a b ⌝ }
 {
-    and_number(begun(letters, a), b).byte(10)
+    and_number(begun(letters, a as u64), b as u64).byte(10)
 }
 
-pub fn config_line(number: u8) -> Text
-    ensures { λ r. ⌜ r ≡ configLine number ⌝ }
-{
-    begun(CONFIG, number as u64).byte(10)
-}
-
-pub fn read_line(number: u8, request: u32) -> Text
-    ensures { λ r. ⌜ r ≡ readLine number request ⌝ }
-{
-    pair_line(READ, number as u64, request as u64)
-}
-
-pub fn write_line(number: u8, request: u32) -> Text
-    ensures { λ r. ⌜ r ≡ writeLine number request ⌝ }
-{
-    pair_line(WRITE, number as u64, request as u64)
-}
-
-pub fn slot_line(number: u8, command: Command, report: Report) -> Text
+fn slot_line(number: u8, command: Command, report: Report) -> Text
     ensures { λ r. ⌜ r ≡ slotLine number command report ⌝ }
 {
     and_report(and_command(begun(SLOT, number as u64), command), report).byte(10)
 }
 
-pub fn backlog_line(number: u8, backlog: u8) -> Text
-    ensures { λ r. ⌜ r ≡ backlogLine number backlog ⌝ }
-{
-    pair_line(BACKLOG, number as u64, backlog as u64)
-}
-
-pub fn cell_line(answer: ToCell) -> Text
+fn cell_line(answer: ToCell) -> Text
     ensures { λ r. ⌜ r ≡ cellLine answer ⌝ }
 {
     let cell = answer.cell;
@@ -671,15 +654,20 @@ pub fn cell_line(answer: ToCell) -> Text
     and_number(and_number(bank, cell.row.0 as u64), cell.column.0 as u64).byte(10)
 }
 
-pub fn address_line(answer: ToAddress) -> Text
-    ensures { λ r. ⌜ r ≡ addressLine answer ⌝ }
-{
-    pair_line(ADDRESS, answer.number as u64, answer.address as u64)
-}
-
-// For a line that is no call.
-pub fn error_line(line: u64) -> Text
-    ensures { λ r. ⌜ r ≡ errorLine line ⌝ }
-{
-    begun(ERROR, line).byte(10)
+impl Answer {
+    // The line that is written for it.
+    pub fn line(self) -> Text
+        ensures { λ r. ⌜ r ≡ answerLine self ⌝ }
+    {
+        match self {
+            Answer::Config(number) => number_line(CONFIG, number as u64),
+            Answer::Read(number, request) => pair_line(READ, number, request),
+            Answer::Write(number, request) => pair_line(WRITE, number, request),
+            Answer::Slot(number, command, report) => slot_line(number, command, report),
+            Answer::Backlog(number, backlog) => pair_line(BACKLOG, number, backlog as u32),
+            Answer::Cell(answer) => cell_line(answer),
+            Answer::Address(answer) => pair_line(ADDRESS, answer.number, answer.address),
+            Answer::Wrong(line) => number_line(ERROR, line),
+        }
+    }
 }

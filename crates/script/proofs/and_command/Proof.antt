@@ -13,38 +13,20 @@ and-word-requires c κs = search needs
 enum-known-command : tie.Need-enum-known-command
 enum-known-command c = search needs
 
-cast-and-two : tie.Need-cast-and-two
-cast-and-two c = search needs
-
-cast-and-two-2 : tie.Need-cast-and-two-2
-cast-and-two-2 c = search needs
-
-and-two-requires : tie.Need-and-two-requires
-and-two-requires c κs = search needs
+and-place-requires : tie.Need-and-place-requires
+and-place-requires c κs = search needs
 
 enum-known-command-2 : tie.Need-enum-known-command-2
 enum-known-command-2 c = search needs
 
-cast-and-two-3 : tie.Need-cast-and-two-3
-cast-and-two-3 c = search needs
-
-cast-and-two-4 : tie.Need-cast-and-two-4
-cast-and-two-4 c = search needs
-
-and-two-requires-2 : tie.Need-and-two-requires-2
-and-two-requires-2 c κs = search needs
+and-place-requires-2 : tie.Need-and-place-requires-2
+and-place-requires-2 c κs = search needs
 
 enum-known-command-3 : tie.Need-enum-known-command-3
 enum-known-command-3 c = search needs
 
-cast-and-two-5 : tie.Need-cast-and-two-5
-cast-and-two-5 c = search needs
-
-cast-and-two-6 : tie.Need-cast-and-two-6
-cast-and-two-6 c = search needs
-
-and-two-requires-3 : tie.Need-and-two-requires-3
-and-two-requires-3 c κs = search needs
+and-place-requires-3 : tie.Need-and-place-requires-3
+and-place-requires-3 c κs = search needs
 
 cast-and-number : tie.Need-cast-and-number
 cast-and-number c = search needs
@@ -88,15 +70,15 @@ returns c = simp (c .before .enum-told .given .1, ← c .and-word .ensures)
 
 returns-2 : tie.Need-returns-2
 unfolding commandOf
-returns-2 c = simp (c .before .before .before .before .command .given .1, ← c .and-two .ensures)
+returns-2 c = simp (c .before .before .command .given .1, ← c .and-place .ensures)
 
 returns-3 : tie.Need-returns-3
 unfolding commandOf
-returns-3 c = simp (c .before .before .before .before .command2 .given .1, ← c .and-two2 .ensures)
+returns-3 c = simp (c .before .before .command2 .given .1, ← c .and-place2 .ensures)
 
 returns-4 : tie.Need-returns-4
 unfolding commandOf
-returns-4 c = simp (c .before .before .before .before .before .command3 .given .1, ← c .before .and-two3 .ensures, ← c .and-number .ensures)
+returns-4 c = simp (c .before .before .before .command3 .given .1, ← c .before .and-place3 .ensures, ← c .and-number .ensures)
 
 returns-5 : tie.Need-returns-5
 unfolding commandOf
@@ -121,17 +103,11 @@ and-command-spec =
     enum-told
     and-word-requires
     enum-known-command
-    cast-and-two
-    cast-and-two-2
-    and-two-requires
+    and-place-requires
     enum-known-command-2
-    cast-and-two-3
-    cast-and-two-4
-    and-two-requires-2
+    and-place-requires-2
     enum-known-command-3
-    cast-and-two-5
-    cast-and-two-6
-    and-two-requires-3
+    and-place-requires-3
     cast-and-number
     and-number-requires
     enum-known-command-4

@@ -1,0 +1,122 @@
+-- Each arm knows its variant; its callee ensures what the clause says.
+use borrow.Author.Needs.{needs}
+use Rattle.script.proofs.Answer.line.Statement.{statement}
+use Rattle.script.proofs.Answer.line.Tie as tie
+use Rattle.script.specs.Output.{answerLine}
+
+enum-known-self : tie.Need-enum-known-self
+enum-known-self c = search needs
+
+cast-number-line : tie.Need-cast-number-line
+cast-number-line c = search needs
+
+number-line-requires : tie.Need-number-line-requires
+number-line-requires c κs = search needs
+
+enum-known-self-2 : tie.Need-enum-known-self-2
+enum-known-self-2 c = search needs
+
+pair-line-requires : tie.Need-pair-line-requires
+pair-line-requires c κs = search needs
+
+enum-known-self-3 : tie.Need-enum-known-self-3
+enum-known-self-3 c = search needs
+
+pair-line-requires-2 : tie.Need-pair-line-requires-2
+pair-line-requires-2 c κs = search needs
+
+enum-known-self-4 : tie.Need-enum-known-self-4
+enum-known-self-4 c = search needs
+
+slot-line-requires : tie.Need-slot-line-requires
+slot-line-requires c κs = search needs
+
+enum-known-self-5 : tie.Need-enum-known-self-5
+enum-known-self-5 c = search needs
+
+cast-pair-line : tie.Need-cast-pair-line
+cast-pair-line c = search needs
+
+pair-line-requires-3 : tie.Need-pair-line-requires-3
+pair-line-requires-3 c κs = search needs
+
+enum-known-self-6 : tie.Need-enum-known-self-6
+enum-known-self-6 c = search needs
+
+cell-line-requires : tie.Need-cell-line-requires
+cell-line-requires c κs = search needs
+
+enum-known-self-7 : tie.Need-enum-known-self-7
+enum-known-self-7 c = search needs
+
+pair-line-requires-4 : tie.Need-pair-line-requires-4
+pair-line-requires-4 c κs = search needs
+
+enum-known-self-8 : tie.Need-enum-known-self-8
+enum-known-self-8 c = search needs
+
+number-line-requires-2 : tie.Need-number-line-requires-2
+number-line-requires-2 c κs = search needs
+
+returns : tie.Need-returns
+unfolding answerLine
+returns c = simp (c .before .before .self .given .1, ← c .number-line .ensures)
+
+returns-2 : tie.Need-returns-2
+unfolding answerLine
+returns-2 c = simp (c .before .before .self2 .given .1, ← c .pair-line .ensures)
+
+returns-3 : tie.Need-returns-3
+unfolding answerLine
+returns-3 c = simp (c .before .before .self3 .given .1, ← c .pair-line2 .ensures)
+
+returns-4 : tie.Need-returns-4
+unfolding answerLine
+returns-4 c = simp (c .before .before .self4 .given .1, ← c .slot-line .ensures)
+
+returns-5 : tie.Need-returns-5
+unfolding answerLine
+returns-5 c = simp (c .before .before .self5 .given .1, ← c .pair-line3 .ensures)
+
+returns-6 : tie.Need-returns-6
+unfolding answerLine
+returns-6 c = simp (c .before .before .self6 .given .1, ← c .cell-line .ensures)
+
+returns-7 : tie.Need-returns-7
+unfolding answerLine
+returns-7 c = simp (c .before .before .self7 .given .1, ← c .pair-line4 .ensures)
+
+returns-8 : tie.Need-returns-8
+unfolding answerLine
+returns-8 c = simp (c .before .before .self8 .given .1, ← c .number-line2 .ensures)
+
+pub line-spec : {M : Type 1} → statement M
+line-spec =
+    tie.close
+    (tie.spec
+    enum-known-self
+    cast-number-line
+    number-line-requires
+    enum-known-self-2
+    pair-line-requires
+    enum-known-self-3
+    pair-line-requires-2
+    enum-known-self-4
+    slot-line-requires
+    enum-known-self-5
+    cast-pair-line
+    pair-line-requires-3
+    enum-known-self-6
+    cell-line-requires
+    enum-known-self-7
+    pair-line-requires-4
+    enum-known-self-8
+    number-line-requires-2
+    returns
+    returns-2
+    returns-3
+    returns-4
+    returns-5
+    returns-6
+    returns-7
+    returns-8)
