@@ -79,7 +79,7 @@ by-test false f g = g refl
 
 -- a bank in the geometry is one of the four
 pub in-four : (c : Config) → Bounded c → (b : ℕ) → R1-bank c b ≡ true → b < 4
-in-four c n b e = omega (arith, leb-true (suc b) (2 ^ (c .geometry .banks)) e, pow-mono (n .shaped .banks))
+in-four c n b e = omega (arith, leb-true (suc b) (2 ^ (c .geometry .banks)) e, pow-mono (n .shaped .banks-most))
 
 module _ {c : Config} {v w : View} (n : Bounded c) (a : Alike v w) where
   R2-same : R2 c v ≡ R2 c w

@@ -1,16 +1,10 @@
 -- What a configuration must keep to for the two readings of the past: document 01's register fields allow nothing beyond it.
 use Prim.Native.Nat.{_+_, _≤_}
 use Rattle.config.specs.declared.Config.{Config}
-use Rattle.config.specs.declared.Geometry.{Geometry}
+use Rattle.config.specs.Accepted.{Shaped}
 use Rattle.device.specs.Ages.{cap}
 
--- at most 4 banks of 13 row bits and 11 column bits
-pub record Shaped (g : Geometry) : Type 0 where
-  pub banks : g .banks ≤ 2
-  pub rows : g .rows ≤ 13
-  pub columns : g .columns ≤ 11
-
--- and no distance that an age could not reach
+-- a geometry that is offered, and no distance that an age could not reach
 pub record Bounded (c : Config) : Type 0 where
   pub shaped : Shaped (c .geometry)
   pub rfc : c .rfc ≤ cap

@@ -149,7 +149,7 @@ bus-carries w any h e = rw e
 
 -- a bank of the geometry is one of the four
 bank-four : (c : Config) → Bounded c → (r : Request) → Good (c .geometry) r → r .cell .bank .0 < 4
-bank-four c u r h = rw (h .cell) (omega (arith, cell-within (c .geometry) (r .address) (h .ok .1) .bank, pow-mono (u .shaped .banks)))
+bank-four c u r h = rw (h .cell) (omega (arith, cell-within (c .geometry) (r .address) (h .ok .1) .bank, pow-mono (u .shaped .banks-most)))
 
 -- a command that is legal by the ages is taken
 pub takes-legal : {c : Config} {p : Past} (d : Sdram) → Bounded c → Agrees p (d .log) → (k : Command) → legalOf c (byAges p) k ≡ true → takes c d k ≡ true

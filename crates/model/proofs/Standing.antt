@@ -112,12 +112,9 @@ counting {c} {w} a v = go (isDone (w .machine .stage)) refl (v .timed)
 
 pub device-bounded : (c : Config) → Accepted c → Bounded c
 device-bounded c a =
-    let s = a .shaped in
     omega (
       arith,
-      s .banks-most,
-      s .rows-most,
-      s .columns-most,
+      a .shaped,
       a .rfc-most,
       a .rp-most,
       a .rcd-most,

@@ -1,8 +1,8 @@
 // Plays a script of any length from standard input on one machine, and writes the lines that REPLAY.md fixes to standard output.
 use address::Cell;
+use answer::Answer;
 use libc::STDIN_FILENO;
 use libc::STDOUT_FILENO;
-use script::Answer;
 use script::Call;
 use script::Line;
 use sequencer::Machine;

@@ -1,13 +1,8 @@
-// Owns REPLAY.md's lines: a script's line to a call, byte by byte, and an answer to the line that is written for it.
+// Owns the reading of a script (REPLAY.md): a line to a call, byte by byte.
 use address::Bank;
 use address::Cell;
 use address::Column;
 use address::Row;
-use address::ToAddress;
-use address::ToCell;
-use command::Command;
-use service::Report;
-use text::Text;
 ghost use mathlib.Core.Path.{_≡_};
 ghost use Prim.Native.Nat.{_<_};
 ghost use Rattle.script.specs.Number.{digitOf, joinedOf, moreDecimal, moreHex, firstByte, afterZero, numberOf, valueOf};
@@ -31,20 +26,6 @@ ghost use Rattle.script.specs.Line.{
   takeOf,
   lineCall,
 };
-ghost use Rattle.script.specs.Output.{
-  andWord,
-  andNumber,
-  andOne,
-  andTwo,
-  commandOf,
-  reportOf,
-  begunOf,
-  numberLine,
-  pairLine,
-  slotLine,
-  cellLine,
-  answerLine,
-};
 
 // One line of a script.
 pub enum Call {
@@ -60,20 +41,6 @@ pub enum Call {
     // The standalone map: CFG, ROW and an address, or a cell.
     Cell(u32, u32, u32),
     Address(u32, u32, Cell),
-}
-
-// The answer to one line of a script. A call's answer has a number of document 01's table first.
-pub enum Answer {
-    Config(u8),
-    // And the request's number.
-    Read(u8, u32),
-    Write(u8, u32),
-    Slot(u8, Command, Report),
-    Backlog(u8, u8),
-    Cell(ToCell),
-    Address(ToAddress),
-    // A line that is no call: its place in the script, counted from 1.
-    Wrong(u64),
 }
 
 // A number, as far as it has been read.
@@ -115,38 +82,20 @@ pub struct Line {
 // Stands for no number: more than 32 bits hold.
 const NONE: u64 = 4294967296;
 
-// The words of REPLAY.md, in the form that Text::word takes.
-const CONFIG: u64 = 0x636f6e666967;
+// The calls' words, in the form that Text::word takes.
+pub const CONFIG: u64 = 0x636f6e666967;
 
-const READ: u64 = 0x72656164;
+pub const READ: u64 = 0x72656164;
 
-const WRITE: u64 = 0x7772697465;
+pub const WRITE: u64 = 0x7772697465;
 
-const SLOT: u64 = 0x736c6f74;
+pub const SLOT: u64 = 0x736c6f74;
 
-const BACKLOG: u64 = 0x6261636b6c6f67;
+pub const BACKLOG: u64 = 0x6261636b6c6f67;
 
-const CELL: u64 = 0x63656c6c;
+pub const CELL: u64 = 0x63656c6c;
 
-const ADDRESS: u64 = 0x61646472657373;
-
-const ERROR: u64 = 0x6572726f72;
-
-const NOP: u64 = 0x4e4f50;
-
-const ACT: u64 = 0x414354;
-
-const READ_COMMAND: u64 = 0x52454144;
-
-const WRT: u64 = 0x575254;
-
-const PRE: u64 = 0x505245;
-
-const DEAC: u64 = 0x44454143;
-
-const REFR: u64 = 0x52454652;
-
-const MRS: u64 = 0x4d5253;
+pub const ADDRESS: u64 = 0x61646472657373;
 
 // The value of a digit, and 16 for a byte that is none.
 fn digit(byte: u8) -> u8
@@ -554,120 +503,5 @@ impl Line {
         let words = self.words;
         let all = words.next();
         all.call()
-    }
-}
-
-// A word with a space before it.
-fn and_word(text: Text, letters: u64) -> Text
-    ensures { λ r. ⌜ r ≡ andWord text letters ⌝ }
-{
-    text.byte(32).word(letters)
-}
-
-// A number with a space before it.
-fn and_number(text: Text, n: u64) -> Text
-    ensures { λ r. ⌜ r ≡ andNumber text n ⌝ }
-{
-    text.byte(32).decimal(n)
-}
-
-// A word and a number, each with a space before it.
-fn and_one(text: Text, letters: u64, a: u64) -> Text
-    ensures { λ r. ⌜ r ≡ andOne text letters a ⌝ }
-{
-    and_number(and_word(text, letters), a)
-}
-
-// A word and two numbers.
-fn and_two(text: Text, letters: u64, a: u64, b: u64) -> Text
-    ensures { λ r. ⌜ r ≡ andTwo text letters a b ⌝ }
-{
-    and_number(and_one(text, letters, a), b)
-}
-
-// A command's word, a bank, and the number of a row or a column.
-fn and_place(text: Text, letters: u64, bank: Bank, n: u16) -> Text
-    ensures { λ r. ⌜ r ≡ andTwo text letters (bank .0) n ⌝ }
-{
-    and_two(text, letters, bank.0 as u64, n as u64)
-}
-
-fn and_command(text: Text, command: Command) -> Text
-    ensures { λ r. ⌜ r ≡ commandOf text command ⌝ }
-{
-    match command {
-        Command::Nop => and_word(text, NOP),
-        Command::Act(bank, row) => and_place(text, ACT, bank, row.0),
-        Command::Read(bank, column) => and_place(text, READ_COMMAND, bank, column.0),
-        Command::Wrt(bank, column, halfword) => {
-            and_number(and_place(text, WRT, bank, column.0), halfword as u64)
-        }
-        Command::Pre(bank) => and_one(text, PRE, bank.0 as u64),
-        Command::Deac => and_word(text, DEAC),
-        Command::Refr => and_word(text, REFR),
-        Command::Mrs(word) => and_one(text, MRS, word as u64),
-    }
-}
-
-fn and_report(text: Text, report: Report) -> Text
-    ensures { λ r. ⌜ r ≡ reportOf text report ⌝ }
-{
-    match report {
-        Report::Nothing => text.byte(32).byte(45),
-        Report::Read(number, halfword) => and_two(text, READ, number as u64, halfword as u64),
-        Report::Write(number) => and_one(text, WRITE, number as u64),
-    }
-}
-
-// The beginning of a line: the call's word and a number.
-fn begun(letters: u64, n: u64) -> Text
-    ensures { λ r. ⌜ r ≡ begunOf letters n ⌝ }
-{
-    and_number(Text::empty().word(letters), n)
-}
-
-// A line of a word and a number.
-fn number_line(letters: u64, n: u64) -> Text
-    ensures { λ r. ⌜ r ≡ numberLine letters n ⌝ }
-{
-    begun(letters, n).byte(10)
-}
-
-// A line of a word and two numbers.
-fn pair_line(letters: u64, a: u8, b: u32) -> Text
-    ensures { λ r. ⌜ r ≡ pairLine letters a b ⌝ }
-{
-    and_number(begun(letters, a as u64), b as u64).byte(10)
-}
-
-fn slot_line(number: u8, command: Command, report: Report) -> Text
-    ensures { λ r. ⌜ r ≡ slotLine number command report ⌝ }
-{
-    and_report(and_command(begun(SLOT, number as u64), command), report).byte(10)
-}
-
-fn cell_line(answer: ToCell) -> Text
-    ensures { λ r. ⌜ r ≡ cellLine answer ⌝ }
-{
-    let cell = answer.cell;
-    let bank = and_number(begun(CELL, answer.number as u64), cell.bank.0 as u64);
-    and_number(and_number(bank, cell.row.0 as u64), cell.column.0 as u64).byte(10)
-}
-
-impl Answer {
-    // The line that is written for it.
-    pub fn line(self) -> Text
-        ensures { λ r. ⌜ r ≡ answerLine self ⌝ }
-    {
-        match self {
-            Answer::Config(number) => number_line(CONFIG, number as u64),
-            Answer::Read(number, request) => pair_line(READ, number, request),
-            Answer::Write(number, request) => pair_line(WRITE, number, request),
-            Answer::Slot(number, command, report) => slot_line(number, command, report),
-            Answer::Backlog(number, backlog) => pair_line(BACKLOG, number, backlog as u32),
-            Answer::Cell(answer) => cell_line(answer),
-            Answer::Address(answer) => pair_line(ADDRESS, answer.number, answer.address),
-            Answer::Wrong(line) => number_line(ERROR, line),
-        }
     }
 }

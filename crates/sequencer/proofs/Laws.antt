@@ -15,7 +15,6 @@ use Rattle.config.specs.Accepted.{Shaped, Accepted, acceptedOf}
 use Rattle.config.proofs.Laws.{accepted-true, true-accepted}
 use Rattle.address.specs.Map.{Holds, holdsOf, addressNumberOf, capacityOf}
 use Rattle.address.proofs.Laws.{holds-true, true-holds, address-good}
-use Rattle.device.specs.Bounds as device
 use Rattle.queue.specs.declared.Request.{Request}
 use Rattle.queue.specs.Places.{blankOf, heldOf, emptyOf}
 use Rattle.queue.specs.Order.{Each, none, more}
@@ -198,10 +197,6 @@ unfolding machine.machineOf emptyOf
 start-facts {c} a =
     let least : 1 ≤ c .rr = omega (arith, a .long-enough, a .access-span) in
     record { accepted = a; counters = bounded-start least; count = lit≤ tt; action = tt; staged = (refl, omega arith, omega arith); cells = none }
-
--- The device asks less of a geometry.
-pub device-shaped : {g : Geometry} → Shaped g → device.Shaped g
-device-shaped s = record { banks = s .banks-most; rows = s .rows-most; columns = s .columns-most }
 
 -- What the number 0 says, of a record and of a request.
 

@@ -12,7 +12,7 @@ use device::Past;
 ghost use Rattle.device.specs.View.{marksOf, rowOf, everyOpen, allClosed};
 ghost use Rattle.device.specs.Rules.{R1-bank, R2, R7, legalOf};
 ghost use Rattle.device.specs.Ages.{freshOf, bankOf, byAges, agedOf, bankSentOf, banksSentOf, sentOf, carriedOf, attemptOf};
-ghost use Rattle.device.specs.Bounds.{Shaped};
+ghost use Rattle.config.specs.Accepted.{Shaped};
 ghost use mathlib.Core.Path.{_≡_};
 ghost use mathlib.Core.Bool.{true, false, cond, not, _&&_, _||_};
 ghost use lib.Dec.{leb, ltb, eqb};

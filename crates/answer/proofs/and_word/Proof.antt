@@ -1,8 +1,8 @@
 -- The callees ensure it.
 use borrow.Author.Needs.{needs}
-use Rattle.script.proofs.and_word.Statement.{statement}
-use Rattle.script.proofs.and_word.Tie as tie
-use Rattle.script.specs.Output.{andWord}
+use Rattle.answer.proofs.and_word.Statement.{statement}
+use Rattle.answer.proofs.and_word.Tie as tie
+use Rattle.answer.specs.Output.{andWord}
 
 byte-requires : tie.Need-byte-requires
 byte-requires c κs = search needs

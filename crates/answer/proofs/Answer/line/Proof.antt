@@ -1,8 +1,8 @@
 -- Each arm knows its variant; its callee ensures what the clause says.
 use borrow.Author.Needs.{needs}
-use Rattle.script.proofs.Answer.line.Statement.{statement}
-use Rattle.script.proofs.Answer.line.Tie as tie
-use Rattle.script.specs.Output.{answerLine}
+use Rattle.answer.proofs.Answer.line.Statement.{statement}
+use Rattle.answer.proofs.Answer.line.Tie as tie
+use Rattle.answer.specs.Output.{answerLine}
 
 enum-known-self : tie.Need-enum-known-self
 enum-known-self c = search needs

@@ -1,8 +1,8 @@
 -- The callees ensure it.
 use borrow.Author.Needs.{needs}
-use Rattle.script.proofs.cell_line.Statement.{statement}
-use Rattle.script.proofs.cell_line.Tie as tie
-use Rattle.script.specs.Output.{cellLine}
+use Rattle.answer.proofs.cell_line.Statement.{statement}
+use Rattle.answer.proofs.cell_line.Tie as tie
+use Rattle.answer.specs.Output.{cellLine}
 
 cast-begun : tie.Need-cast-begun
 cast-begun c = search needs

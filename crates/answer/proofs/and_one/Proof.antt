@@ -1,8 +1,8 @@
 -- The callees ensure it.
 use borrow.Author.Needs.{needs}
-use Rattle.script.proofs.and_one.Statement.{statement}
-use Rattle.script.proofs.and_one.Tie as tie
-use Rattle.script.specs.Output.{andOne}
+use Rattle.answer.proofs.and_one.Statement.{statement}
+use Rattle.answer.proofs.and_one.Tie as tie
+use Rattle.answer.specs.Output.{andOne}
 
 and-word-requires : tie.Need-and-word-requires
 and-word-requires c κs = search needs

@@ -1,8 +1,8 @@
 -- The callees ensure it.
 use borrow.Author.Needs.{needs}
-use Rattle.script.proofs.and_two.Statement.{statement}
-use Rattle.script.proofs.and_two.Tie as tie
-use Rattle.script.specs.Output.{andTwo}
+use Rattle.answer.proofs.and_two.Statement.{statement}
+use Rattle.answer.proofs.and_two.Tie as tie
+use Rattle.answer.specs.Output.{andTwo}
 
 and-one-requires : tie.Need-and-one-requires
 and-one-requires c κs = search needs

@@ -1,8 +1,8 @@
 -- The callees ensure it.
 use borrow.Author.Needs.{needs}
-use Rattle.script.proofs.and_number.Statement.{statement}
-use Rattle.script.proofs.and_number.Tie as tie
-use Rattle.script.specs.Output.{andNumber}
+use Rattle.answer.proofs.and_number.Statement.{statement}
+use Rattle.answer.proofs.and_number.Tie as tie
+use Rattle.answer.specs.Output.{andNumber}
 
 byte-requires : tie.Need-byte-requires
 byte-requires c κs = search needs

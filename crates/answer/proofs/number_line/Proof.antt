@@ -1,8 +1,8 @@
 -- The callees ensure it.
 use borrow.Author.Needs.{needs}
-use Rattle.script.proofs.number_line.Statement.{statement}
-use Rattle.script.proofs.number_line.Tie as tie
-use Rattle.script.specs.Output.{numberLine}
+use Rattle.answer.proofs.number_line.Statement.{statement}
+use Rattle.answer.proofs.number_line.Tie as tie
+use Rattle.answer.specs.Output.{numberLine}
 
 begun-requires : tie.Need-begun-requires
 begun-requires c κs = search needs

@@ -8,8 +8,8 @@ use Rattle.command.specs.declared.Command.{Command}
 use Rattle.command.specs.declared.Command.the-variants.{Nop, Act, Wrt, Pre, Deac, Refr, Mrs, Read as Fetch}
 use Rattle.service.specs.declared.Report.{Report}
 use Rattle.service.specs.declared.Report.the-variants.{Nothing, Read as ReadDone, Write as WriteDone}
-use Rattle.script.specs.declared.Answer.{Answer}
-use Rattle.script.specs.declared.Answer.the-variants.{
+use Rattle.answer.specs.declared.Answer.{Answer}
+use Rattle.answer.specs.declared.Answer.the-variants.{
   Config,
   Read,
   Write,

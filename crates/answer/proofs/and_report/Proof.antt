@@ -1,8 +1,8 @@
 -- Each arm knows its variant; its callees ensure what the clause says.
 use borrow.Author.Needs.{needs}
-use Rattle.script.proofs.and_report.Statement.{statement}
-use Rattle.script.proofs.and_report.Tie as tie
-use Rattle.script.specs.Output.{reportOf}
+use Rattle.answer.proofs.and_report.Statement.{statement}
+use Rattle.answer.proofs.and_report.Tie as tie
+use Rattle.answer.specs.Output.{reportOf}
 
 enum-told : tie.Need-enum-told
 enum-told c = search needs

@@ -1,8 +1,8 @@
 -- The callees ensure it.
 use borrow.Author.Needs.{needs}
-use Rattle.script.proofs.begun.Statement.{statement}
-use Rattle.script.proofs.begun.Tie as tie
-use Rattle.script.specs.Output.{begunOf}
+use Rattle.answer.proofs.begun.Statement.{statement}
+use Rattle.answer.proofs.begun.Tie as tie
+use Rattle.answer.specs.Output.{begunOf}
 
 empty-requires : tie.Need-empty-requires
 empty-requires c κs = search needs

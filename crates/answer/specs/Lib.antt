@@ -1,0 +1,3 @@
+-- REPLAY.md, "Output".
+pub mod Output
+pub mod Examples
