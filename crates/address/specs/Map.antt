@@ -4,9 +4,6 @@ use mathlib.Core.Bool.{Bool, cond, _&&_}
 use mathlib.Core.Path.{_≡_}
 use lib.Dec.{eqb, leb, ltb}
 use Rattle.config.specs.declared.Geometry.{Geometry}
-use Rattle.address.specs.declared.Bank.{Bank}
-use Rattle.address.specs.declared.Row.{Row}
-use Rattle.address.specs.declared.Column.{Column}
 use Rattle.address.specs.declared.Cell.{Cell}
 
 abbrev pub cellAt : ℕ → ℕ → ℕ → Cell

@@ -1,6 +1,6 @@
 -- The address map on its own, given a CFG and a ROW word (document 01, "Numbers given back").
 use Prim.Native.Nat.{ℕ}
-use mathlib.Core.Bool.{Bool, cond}
+use mathlib.Core.Bool.{cond}
 use lib.Dec.{eqb}
 use Rattle.config.specs.declared.Geometry.{Geometry}
 use Rattle.config.specs.Setting.{mapNumberOf, geometryOf}

@@ -43,7 +43,7 @@ fn span(width: u8) -> u32
 }
 
 // How many bytes the device holds.
-pub fn capacity(g: Geometry) -> u32
+fn capacity(g: Geometry) -> u32
     requires { ⌜ Shaped g ⌝ }
     ensures { λ r. ⌜ r ≡ capacityOf g ⌝ }
 {
@@ -99,7 +99,7 @@ pub fn holds(g: Geometry, cell: Cell) -> bool
 }
 
 // The address of a cell within the geometry.
-pub fn address_of(g: Geometry, cell: Cell) -> u32
+fn address_of(g: Geometry, cell: Cell) -> u32
     requires { ⌜ Shaped g ⌝ }
     requires { ⌜ holdsOf g cell ≡ true ⌝ }
     ensures { λ r. ⌜ r ≡ addressOf g cell ⌝ }

@@ -3,7 +3,6 @@ use Prim.Native.Nat.{ℕ}
 use Rattle.text.specs.declared.Text.{Text}
 use Rattle.text.specs.Spelling.{letters, emptyOf, byteOf, wordOf, decimalOf}
 use Rattle.address.specs.declared.ToCell.{ToCell}
-use Rattle.address.specs.declared.ToAddress.{ToAddress}
 use Rattle.command.specs.declared.Command.{Command}
 use Rattle.command.specs.declared.Command.the-variants.{Nop, Act, Wrt, Pre, Deac, Refr, Mrs, Read as Fetch}
 use Rattle.service.specs.declared.Report.{Report}

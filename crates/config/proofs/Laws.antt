@@ -1,13 +1,13 @@
 -- A setting with number 0 holds an accepted configuration, and the standalone map's number 0 a geometry that is offered.
 use Prim.Native.Nat.{ℕ, _≤_, _+_, _*_, max}
 use native.Mathlib.Omega.{arith}
-use mathlib.Core.Path.{_≡_, refl, sym}
+use mathlib.Core.Path.{_≡_, refl}
 use mathlib.Core.Bool.{Bool, true, false, cond, _&&_, _||_, and-eq-true-iff, true≢false, false≢true}
 use mathlib.Core.List.{List, [], _∷_}
 use lib.Dec.{eqb, leb, ltb}
 use borrow.Author.Tests.{leb-true, ltb-false, eqb-true, eqb-false, eq-eqb, le-ltb}
 use Rattle.config.specs.Words.{fieldOf, NM, CL, IBANK, PAGESIZE, ROWSIZE, reservedMap, reservedAll}
-use Rattle.config.specs.Setting.{offeredOf, geometryOf, configOf, checkedOf, settingOf, mapNumberOf, refusedOf, noConfig, tooShort, accessSpan, refreshSpan}
+use Rattle.config.specs.Setting.{offeredOf, geometryOf, configOf, checkedOf, settingOf, mapNumberOf, refusedOf, tooShort, accessSpan, refreshSpan}
 use Rattle.config.specs.Accepted.{Shaped, Accepted, outsideOf, noneOf, shapedOf, distancesOf, spannedOf, acceptedOf}
 use Rattle.config.specs.declared.Geometry.{Geometry}
 use Rattle.config.specs.declared.Config.{Config}

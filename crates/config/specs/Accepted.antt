@@ -2,9 +2,9 @@
 -- As facts, and as the test that a record is put to.
 use Prim.Native.Nat.{ℕ, _+_, _*_, _≤_, max}
 use mathlib.Core.Path.{_≡_}
-use mathlib.Core.Bool.{Bool, true, false, cond, _&&_, _||_, not}
+use mathlib.Core.Bool.{Bool, true, false, cond, _&&_, _||_}
 use mathlib.Core.List.{List, [], _∷_}
-use lib.Dec.{eqb, leb, ltb}
+use lib.Dec.{eqb, ltb}
 use Rattle.config.specs.Setting.{accessSpan, refreshSpan, tooShort}
 use Rattle.config.specs.declared.Geometry.{Geometry}
 use Rattle.config.specs.declared.Config.{Config}

@@ -308,7 +308,7 @@ fn outside(low: u8, high: u8, n: u8) -> bool
 }
 
 // Are the widths ones that are offered?
-pub fn shaped(g: Geometry) -> bool
+fn shaped(g: Geometry) -> bool
     ensures { λ r. ⌜ r ≡ shapedOf g ⌝ }
 {
     if outside(8, 11, g.columns) {

@@ -1,5 +1,4 @@
--- The two readings of the past agree, and every distance is met by waiting.
+-- The two readings of the past agree.
 pub mod Slot
 pub mod Agree
-pub mod Waiting
 pub mod Every

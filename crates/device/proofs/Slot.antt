@@ -70,10 +70,6 @@ aged-min false a = go (leb cap a) refl
 pub sent-age : (p : Past) (k : Command) (e : Event) → Known e → ageOf (sentOf p k) e ≡ cond (fits e k) 1 (min cap (suc (ageOf p e)))
 sent-age p k e h = sent-aged p k e h ∙ aged-min (fits e k) (ageOf p e)
 
-pub sent-moded : (p : Past) (k : Command) → sentOf p k .moded ≡ cond (fits mode k) true (p .moded)
-unfolding sentOf
-sent-moded p k = refl
-
 pub sent-opened : (p : Past) (k : Command) (b : ℕ) → b < 4
     → bankOf (sentOf p k) b .opened ≡ cond (fits (activate b) k) true (cond (fits (precharge b) k) false (bankOf p b .opened))
 unfolding bankSentOf

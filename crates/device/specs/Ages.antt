@@ -1,5 +1,5 @@
 -- What the sequencer keeps of the past, and how it reads the rules' distances off it. An age is as the next slot sees it.
-use Prim.Native.Nat.{ℕ, zero, suc, _+_}
+use Prim.Native.Nat.{ℕ, _+_}
 use mathlib.Core.Bool.{Bool, true, false, cond}
 use mathlib.Core.List.{List, [], _∷_}
 use mathlib.Core.Option.{Option, none, some}
@@ -103,8 +103,3 @@ triedOf c p k = attemptOf c p k .past
 unfoldable pub verdictsByAges : Config → Past → List Command → List Bool
 verdictsByAges c p [] = []
 verdictsByAges c p (k ∷ ks) = legalOf c (byAges p) k ∷ verdictsByAges c (triedOf c p k) ks
-
--- n slots of NOP
-unfoldable pub waited : ℕ → Past → Past
-waited zero p = p
-waited (suc n) p = sentOf (waited n p) Nop

@@ -1,5 +1,5 @@
 // Owns what the device allows (document 01, R1 to R15): the rules, what is kept of the past commands, and that the two readings of the past
-// agree. It has no code: `tracker` has it.
+// agree. It has no code; `tracker` has it.
 use address::Row;
 use command::Command;
 
@@ -12,7 +12,7 @@ pub struct BankPast {
     pub wrt: u8,
 }
 
-// What is kept of the past commands. An age is in slots, as the next slot sees it: 1 after the command's own slot, CAP at most, and CAP if there was none.
+// What is kept of the past commands. An age is in slots, as the next slot sees it: 1 after the command's own slot, 32 at most, and 32 if there was none.
 pub struct Past {
     pub banks: [BankPast; 4],
     pub moded: bool,

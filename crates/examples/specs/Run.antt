@@ -8,7 +8,6 @@ use Rattle.command.specs.declared.Command.the-variants.{Nop, Act, Read, Wrt, Pr
 use Rattle.refresh.specs.Counting.{tickOf}
 use Rattle.refresh.specs.Urgency.{levelOf}
 use Rattle.startup.specs.Start.{isDone}
-use Rattle.service.specs.declared.Action.{Action}
 use Rattle.service.specs.declared.Report.{Report}
 use Rattle.service.specs.Actions.{isIdle}
 use Rattle.sequencer.specs.declared.Machine.{Machine}
@@ -49,7 +48,7 @@ unfoldable pub occupied : Machine → Bool
 occupied m =
     isDone (m .stage) && not (isIdle (cond (isIdle (m .action)) (chosenOf m (levelOf (tickOf (m .counters) (m .config .rr) .backlog))) (m .action)))
 
--- the events of n slots from slot s on, from slot `from` on; `was` says whether an action occupied the slot before; the bus carries `bus`
+-- the events of n slots, the first of them slot s, without those before slot `from`; `was` says whether an action occupied the slot before; the bus carries `bus`
 unfoldable pub watched : ℕ → ℕ → ℕ → Bool → ℕ → Machine → List Event
 watched zero s from was bus m = []
 watched (suc n) s from was bus m =

@@ -5,7 +5,6 @@ use mathlib.Core.List.{List, [], _∷_}
 use Rattle.config.specs.declared.Config.{Config}
 use Rattle.config.specs.declared.Setting.{Setting}
 use Rattle.config.specs.Setting.{settingOf}
-use Rattle.address.specs.declared.Cell.{Cell}
 use Rattle.address.specs.declared.ToCell.{ToCell}
 use Rattle.address.specs.Standalone.{toCellOf}
 use Rattle.command.specs.declared.Command.{Command}
@@ -106,9 +105,9 @@ table =
     -- E9
     ∷ row (bus 0x4620 4 136 0x42215810 (read 0 ∷ []) 1174 1166)
     (events (sent 1166 (ACT 0 0) ∷ sent 1169 (READ 0 0) ∷ told 1172 (Report.Read 1 7) ∷ free 1174 ∷ []))
-    -- E10: read 0x800, write 0, read 0
+    -- E10, on E4's machine (document 01 names none): read 0x800, write 0, read 0
     ∷ row (order 0x4620 4 136 0x42215810 (write 0 1 ∷ read 0 ∷ read 0x800 ∷ []) 1226) (numbers (3 ∷ 1 ∷ 2 ∷ []))
-    -- E11: the read waits
+    -- E11, on E4's machine too: the read waits
     ∷ row (order 0x4620 4 136 0x42215810 (write 0 1 ∷ read 0x7fe ∷ []) 1226) (numbers (1 ∷ 2 ∷ []))
     -- E12: 8 column, 2 bank, 13 row bits
     ∷ row (cell 0x4420 4 0x200) (place 0 1 0 0)

@@ -1,13 +1,12 @@
 -- The calls by their cases: what an accepted request shows, and what a call on a record without a number of its own is.
 use Prim.Native.Nat.{ℕ}
-use mathlib.Core.Path.{_≡_, refl, sym, ap, _∙_}
+use mathlib.Core.Path.{_≡_, refl}
 use mathlib.Core.Bool.{Bool, true, false, cond}
 use lib.Dec.{eqb}
 use borrow.Author.Tests.{eqb-true, eqb-false, eq-eqb}
 use Rattle.queue.specs.declared.Kind.{Kind}
 use Rattle.sequencer.specs.declared.Machine.{Machine}
 use Rattle.sequencer.specs.declared.Requested.{Requested}
-use Rattle.sequencer.specs.declared.Reading.{Reading}
 use Rattle.sequencer.specs.Machine.{stepOf}
 use Rattle.sequencer.specs.Calls.{recordNumberOf, requestNumberOf, queuedRequest, acceptedOf, requestOf, slotOf, backlogOf}
 

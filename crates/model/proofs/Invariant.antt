@@ -1,7 +1,7 @@
 -- What holds in every world that calls can make, in three parts, each kept by every call: the device's past; order and memory; refresh.
 use Prim.Native.Nat.{ℕ, _+_, _-_, _%_, _≤_, _<_, max}
 use mathlib.Core.Path.{_≡_}
-use mathlib.Core.Bool.{Bool, true, false, cond}
+use mathlib.Core.Bool.{true, false, cond}
 use mathlib.Core.List.{List, List·Memᴰ}
 use mathlib.Core.Option.{some}
 use lib.Dec.{eqb}
@@ -12,7 +12,6 @@ use Rattle.address.specs.Map.{capacityOf, cellOf}
 use Rattle.device.specs.declared.Past.{Past}
 use Rattle.device.specs.declared.BankPast.{BankPast}
 use Rattle.device.specs.View.{allClosed}
-use Rattle.device.specs.Rules.{R2}
 use Rattle.device.specs.Ages.{byAges, bankOf}
 use Rattle.device.proofs.Agree.{Agrees}
 use Rattle.queue.specs.declared.Kind.{Kind}
@@ -22,11 +21,9 @@ use Rattle.queue.specs.Places.{Tidy, heldOf, blankOf, getOf}
 use Rattle.queue.specs.Order.{Each, Servable, Rising}
 use Rattle.queue.specs.Memory.{Consistent}
 use Rattle.refresh.specs.declared.Counters.{Counters}
-use Rattle.refresh.proofs.Counts.{Owed}
 use Rattle.startup.specs.Start.{isDone}
 use Rattle.service.specs.declared.Action.{Action}
 use Rattle.service.specs.declared.Action.the-variants.{Idle, Access, Data, Turn, Close, Refresh, Recover}
-use Rattle.sequencer.specs.declared.Machine.{Machine}
 use Rattle.model.specs.Sdram.{Sdram, Cells, drivenIn}
 use Rattle.model.specs.Flat.{Flat}
 use Rattle.model.specs.World.{World}

@@ -38,13 +38,12 @@ use Rattle.refresh.specs.declared.Counters.{Counters}
 use Rattle.refresh.specs.Counting.{refreshedOf}
 use Rattle.startup.specs.declared.Stage.{Stage}
 use Rattle.startup.specs.declared.Stage.the-variants.{Pause, Mode, Settle, Done}
-use Rattle.startup.specs.declared.Started.{Started}
-use Rattle.startup.specs.Start.{carried, tried, startSlotOf}
+use Rattle.startup.specs.Start.{Started, carried, tried, startSlotOf}
 use Rattle.service.specs.declared.Action.{Action}
 use Rattle.service.specs.declared.Action.the-variants.{Idle, Access, Data, Turn, Close, Refresh, Recover}
 use Rattle.service.specs.declared.Report.{Report}
-use Rattle.service.specs.declared.Effect.{Effect}
 use Rattle.service.specs.Actions.{
+  Effect,
   quiet,
   sendOf,
   readOf,

@@ -17,12 +17,10 @@ use Rattle.queue.specs.Places.{getOf}
 use Rattle.refresh.specs.declared.Counters.{Counters}
 use Rattle.startup.specs.declared.Stage.{Stage}
 use Rattle.startup.specs.declared.Stage.the-variants.{Pause, Mode, Settle, Done}
-use Rattle.startup.specs.declared.Started.{Started}
-use Rattle.startup.specs.Start.{carried, tried, startSlotOf}
+use Rattle.startup.specs.Start.{Started, carried, tried, startSlotOf}
 use Rattle.service.specs.declared.Action.{Action}
 use Rattle.service.specs.declared.Action.the-variants.{Idle, Access, Data, Turn, Close, Refresh, Recover}
-use Rattle.service.specs.declared.Effect.{Effect}
-use Rattle.service.specs.Actions.{quiet, sendOf, readOf, writtenOf, writeOf, transferOf, accessOf, takenOf, dataOf, refreshOf, actOf}
+use Rattle.service.specs.Actions.{Effect, quiet, sendOf, readOf, writtenOf, writeOf, transferOf, accessOf, takenOf, dataOf, refreshOf, actOf}
 
 -- both branches of a test
 pub if-both : {A : Type 0} (P : A → Type 0) (b : Bool) {x y : A} → (b ≡ true → P x) → (b ≡ false → P y) → P (cond b x y)

@@ -1,5 +1,5 @@
 -- Requests: what is answered, seen from outside, and that an accepted one keeps the invariant.
-use Prim.Native.Nat.{ℕ, _+_, _-_, _%_, _≤_, _<_}
+use Prim.Native.Nat.{ℕ, _+_, _-_, _%_, _<_}
 use native.Mathlib.Omega.{arith}
 use mathlib.Core.Path.{_≡_, refl, sym, ap, subst, _∙_}
 use mathlib.Core.Bool.{Bool, true, false, cond}
@@ -15,9 +15,7 @@ use Rattle.queue.specs.declared.Queue.{Queue}
 use Rattle.queue.specs.declared.Request.{Request}
 use Rattle.queue.specs.Places.{acceptOf}
 use Rattle.startup.specs.Start.{isDone}
-use Rattle.sequencer.specs.declared.Machine.{Machine}
-use Rattle.sequencer.specs.declared.Requested.{Requested}
-use Rattle.sequencer.specs.Calls.{lastNumber, recordNumberOf, roomNumberOf, requestNumberOf, queuedRequest, acceptedOf, requestOf}
+use Rattle.sequencer.specs.Calls.{lastNumber, roomNumberOf, requestNumberOf, queuedRequest, acceptedOf, requestOf}
 use Rattle.sequencer.proofs.Laws.{RequestFacts, request-facts}
 use Rattle.model.specs.Flat.{taken, flatAfter}
 use Rattle.model.specs.World.{World, afterRequest}

@@ -1,37 +1,32 @@
 -- Slots: what a slot of the initialisation and a service slot do to the invariant, and what they carry.
-use Prim.Native.Nat.{ℕ, suc, _+_, _-_, _≤_, _<_}
+use Prim.Native.Nat.{ℕ, _+_, _≤_, _<_}
 use native.Mathlib.Omega.{arith}
-use native.Mathlib.Numerals.{add-one}
-use mathlib.Core.Path.{_≡_, refl, sym, ap, subst, _∙_}
-use mathlib.Core.Bool.{Bool, true, false, cond, _&&_, true≢false, false≢true}
-use mathlib.Core.List.{List, [], _∷_}
-use lib.Dec.{leb, ltb, eqb}
+use mathlib.Core.Path.{_≡_, refl}
+use mathlib.Core.Bool.{Bool, true, false, cond, _&&_}
+use mathlib.Core.List.{List}
+use lib.Dec.{leb, eqb}
 use lib.ListN.{length}
 use borrow.Author.Tests.{lt-ltb, le-leb, lt-leb}
 use Rattle.config.specs.declared.Config.{Config}
-use Rattle.config.specs.Accepted.{Accepted}
 use Rattle.command.specs.declared.Command.{Command}
-use Rattle.command.specs.declared.Command.the-variants.{Nop, Act, Wrt, Pre, Deac, Refr}
+use Rattle.command.specs.declared.Command.the-variants.{Act, Wrt, Pre, Deac, Refr}
 use Rattle.device.specs.declared.Past.{Past}
 use Rattle.device.specs.declared.BankPast.{BankPast}
 use Rattle.device.specs.Rules.{legalOf}
-use Rattle.device.specs.Ages.{byAges, bankOf, sentOf}
+use Rattle.device.specs.Ages.{byAges, bankOf}
 use Rattle.device.specs.History.{Log, fed, allowed}
-use Rattle.device.proofs.Agree.{Agrees, agrees-sent, same-verdict}
 use Rattle.queue.specs.declared.Kind.{Kind}
 use Rattle.queue.specs.declared.Queue.{Queue}
 use Rattle.queue.specs.declared.Request.{Request}
 use Rattle.queue.specs.Places.{heldOf, getOf, removeOf, Tidy}
 use Rattle.queue.proofs.Tidy.{tidy-length}
 use Rattle.refresh.specs.declared.Counters.{Counters}
-use Rattle.refresh.specs.Counting.{tickOf}
 use Rattle.service.specs.declared.Action.{Action}
 use Rattle.service.specs.declared.Action.the-variants.{Idle, Access, Data, Turn, Close, Refresh, Recover}
-use Rattle.service.specs.declared.Effect.{Effect}
-use Rattle.service.specs.Actions.{quiet, sendOf, readOf, writtenOf, writeOf, transferOf, accessOf, takenOf, dataOf, recoveryOf, refreshOf, actOf}
+use Rattle.service.specs.Actions.{Effect, quiet, sendOf, readOf, writtenOf, writeOf, transferOf, accessOf, takenOf, dataOf, refreshOf, actOf}
 use Rattle.model.specs.Sdram.{Sdram}
 use Rattle.model.specs.Flat.{Flat}
-use Rattle.model.specs.World.{World, reportedAfter}
+use Rattle.model.specs.World.{reportedAfter}
 use Rattle.model.specs.Condition.{isRefr, firstService, serviceRefreshes}
 use Rattle.model.proofs.Invariant.{Doing}
 use Rattle.model.proofs.OrderSend.{if-both}

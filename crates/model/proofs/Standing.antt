@@ -1,8 +1,8 @@
 -- What the whole invariant says of a world between two calls: the record is sound, and the third condition's standing parts hold.
-use Prim.Native.Nat.{ℕ, _+_, _-_, _≤_, _<_, _%_}
+use Prim.Native.Nat.{ℕ, _+_, _≤_}
 use native.Mathlib.Omega.{arith}
-use mathlib.Core.Path.{_≡_, refl, sym, ap, subst, _∙_}
-use mathlib.Core.Bool.{Bool, true, false, cond, false≢true}
+use mathlib.Core.Path.{_≡_, refl, sym, ap, _∙_}
+use mathlib.Core.Bool.{Bool, true, false, false≢true}
 use mathlib.Core.List.{List}
 use lib.Dec.{leb, lit<}
 use lib.ListN.{length}
@@ -10,8 +10,7 @@ use lib.Pow.{pow-mono}
 use borrow.Author.Tests.{le-leb, lt-leb}
 use Rattle.config.specs.declared.Config.{Config}
 use Rattle.config.specs.declared.Geometry.{Geometry}
-use Rattle.config.specs.Accepted.{Accepted, Shaped}
-use Rattle.address.specs.Map.{cellOf, Holds}
+use Rattle.config.specs.Accepted.{Accepted}
 use Rattle.address.proofs.Laws.{cell-within}
 use Rattle.device.specs.declared.Past.{Past}
 use Rattle.device.specs.Bounds.{Bounded}
@@ -31,15 +30,13 @@ use Rattle.startup.specs.Start.{isDone}
 use Rattle.service.specs.Actions.{isIdle}
 use Rattle.service.specs.declared.Action.{Action}
 use Rattle.service.specs.declared.Action.the-variants.{Idle, Access, Data, Turn, Close, Refresh, Recover}
-use Rattle.sequencer.specs.declared.Machine.{Machine}
-use Rattle.sequencer.specs.Sound.{soundOf}
 use Rattle.sequencer.specs.Calls.{recordNumberOf, backlogOf}
 use Rattle.sequencer.proofs.Laws.{SoundFacts, Queued, Staged, Inside, facts-sound}
 use Rattle.model.specs.Sdram.{Sdram}
 use Rattle.model.specs.Flat.{Flat}
 use Rattle.model.specs.World.{World}
 use Rattle.model.specs.Condition.{firstService, servedBy, expiries, refreshes, Standing, Exact}
-use Rattle.model.proofs.Invariant.{Kept, Ok, Good, Doing, Ordered, Timely}
+use Rattle.model.proofs.Invariant.{Kept, Good, Doing, Ordered, Timely}
 use Rattle.model.proofs.OrderQueue.{ordered-agree}
 use Rattle.model.proofs.Calls.{backlog-reads}
 use Rattle.model.proofs.Start.{Starting, starting-below}

@@ -1,25 +1,22 @@
 -- The initialisation to the slot: each stage fixes the number of the slot that it waits for, so service begins in the slot that document 01 fixes.
 use Prim.Native.Nat.{ℕ, suc, _+_, _-_, _*_, _≤_, _<_, min}
 use native.Mathlib.Omega.{arith}
-use native.Mathlib.Nat.{mul-comm}
 use mathlib.Core.Path.{_≡_, refl, sym, ap, _∙_}
 use mathlib.Core.Logic.{_⊎_, inl, inr, ⊎-elim}
-use mathlib.Core.Bool.{Bool, true, false, cond, _&&_, and-eq-true-iff, true≢false}
+use mathlib.Core.Bool.{true, false, _&&_, and-eq-true-iff, true≢false}
 use lib.Dec.{leb, eqb}
 use borrow.Author.Tests.{leb-true, leb-false, le-leb, eq-eqb}
 use Rattle.config.specs.declared.Config.{Config}
 use Rattle.config.specs.Accepted.{Accepted}
-use Rattle.command.specs.declared.Command.{Command}
 use Rattle.command.specs.declared.Command.the-variants.{Nop, Deac, Refr, Mrs}
 use Rattle.device.specs.declared.Past.{Past}
 use Rattle.device.specs.View.{allClosed, marksOf, rowOf}
 use Rattle.device.specs.Rules.{legalOf, R2, R12-all, R13-all}
-use Rattle.device.specs.Ages.{cap, freshOf, bankOf, byAges, agedOf, bankSentOf, banksSentOf, sentOf}
+use Rattle.device.specs.Ages.{freshOf, bankOf, byAges, agedOf, bankSentOf, banksSentOf, sentOf}
 use Rattle.device.proofs.Slot.{aged-min}
 use Rattle.device.proofs.Agree.{by-test}
 use Rattle.startup.specs.declared.Stage.{Stage}
 use Rattle.startup.specs.declared.Stage.the-variants.{Pause, Close, Refresh, Mode, Settle, Done}
-use Rattle.startup.specs.declared.Started.{Started}
 use Rattle.startup.specs.Start.{isDone, firstStage, carried, tried, pausedOf, refreshedOf, startSlotOf}
 use Rattle.model.specs.Condition.{firstService}
 

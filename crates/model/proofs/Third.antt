@@ -1,9 +1,9 @@
 -- The third condition: the invariant holds at the start, every call keeps it, and it says all that is promised.
-use Prim.Native.Nat.{ℕ, suc, _+_, _-_, _≤_, _<_}
+use Prim.Native.Nat.{ℕ, suc, _+_, _<_}
 use native.Mathlib.Omega.{arith}
 use native.Mathlib.Numerals.{add-one}
 use mathlib.Core.Path.{_≡_, refl, sym, ap, subst, _∙_}
-use mathlib.Core.Bool.{Bool, true, false, cond, true≢false, false≢true}
+use mathlib.Core.Bool.{Bool, true, false, cond, false≢true}
 use mathlib.Core.List.{List, [], _∷_}
 use lib.Dec.{eqb}
 use lib.ListN.{length}
@@ -13,17 +13,13 @@ use Rattle.config.specs.Accepted.{Accepted}
 use Rattle.config.specs.declared.Setting.{Setting}
 use Rattle.config.specs.Setting.{configOf, settingOf}
 use Rattle.config.proofs.Laws.{accepted}
-use Rattle.command.specs.declared.Command.{Command}
 use Rattle.device.specs.declared.Past.{Past}
-use Rattle.device.specs.Rules.{legalOf}
-use Rattle.device.specs.Ages.{byAges, sentOf}
 use Rattle.device.specs.History.{startLog, fed, allowed}
 use Rattle.device.proofs.Agree.{Agrees, agrees-fresh, agrees-sent, same-verdict}
 use Rattle.queue.specs.declared.Kind.{Kind}
 use Rattle.queue.specs.Places.{emptyOf}
 use Rattle.refresh.specs.declared.Counters.{Counters}
-use Rattle.refresh.specs.declared.Level.{Level}
-use Rattle.refresh.specs.Counting.{startOf, tickOf, refreshedOf}
+use Rattle.refresh.specs.Counting.{tickOf}
 use Rattle.refresh.specs.Urgency.{levelOf}
 use Rattle.refresh.proofs.Counts as counts
 use Rattle.startup.specs.declared.Stage.{Stage}
@@ -32,15 +28,14 @@ use Rattle.startup.specs.Start.{isDone, startSlotOf}
 use Rattle.service.specs.declared.Action.{Action}
 use Rattle.service.specs.declared.Action.the-variants.{Idle}
 use Rattle.service.specs.Actions.{isIdle, actOf}
-use Rattle.sequencer.specs.declared.Machine.{Machine}
 use Rattle.sequencer.specs.declared.Slot.{Slot}
 use Rattle.sequencer.specs.declared.Configured.{Configured}
 use Rattle.sequencer.specs.Calls.{configuredBy, configureOf}
-use Rattle.sequencer.specs.Machine.{blankOf, machineOf, startedOf, servedOf, chosenOf, continuedOf, begunOf, serviceOf, stepOf}
-use Rattle.model.specs.Sdram.{Cells, Sdram, takes, startSdram, sdramAfter}
+use Rattle.sequencer.specs.Machine.{blankOf, machineOf, startedOf, servedOf, continuedOf, begunOf, serviceOf, stepOf}
+use Rattle.model.specs.Sdram.{Cells, takes, startSdram, sdramAfter}
 use Rattle.model.specs.World.{World, Call, read, write, slot, backlog, startWorld, busOf, slotIn, afterSlot, reportedAfter, after}
 use Rattle.model.specs.Condition.{isRefr, firstService, servedBy, serviceRefreshes, expiries, refreshes, Reports, Carried, Right, Promised, ThirdCondition}
-use Rattle.model.proofs.Invariant.{Kept, Ordered, Timely, Doing}
+use Rattle.model.proofs.Invariant.{Ordered}
 use Rattle.model.proofs.Calls.{slot-steps}
 use Rattle.model.proofs.OrderSend.{if-both, Sends, act-sends, start-sends}
 use Rattle.model.proofs.OrderQueue.{ordered-start, ordered-choice}

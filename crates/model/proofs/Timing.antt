@@ -35,9 +35,8 @@ use Rattle.refresh.proofs.Counts.{tick-stays, tick-expires, refreshed-falls}
 use Rattle.refresh.proofs.Levels.{Within, level-in, run-off, run-on}
 use Rattle.service.specs.declared.Action.{Action}
 use Rattle.service.specs.declared.Action.the-variants.{Idle, Access, Data, Turn, Close, Refresh, Recover}
-use Rattle.service.specs.declared.Effect.{Effect}
 use Rattle.service.specs.Choice.{accessOr, needs, idleRefresh, fromRule5, fromRule3, choiceOf}
-use Rattle.service.specs.Actions.{isIdle, quiet, actOf}
+use Rattle.service.specs.Actions.{Effect, isIdle, quiet, actOf}
 use Rattle.sequencer.specs.declared.Machine.{Machine}
 use Rattle.sequencer.specs.declared.Slot.{Slot}
 use Rattle.sequencer.specs.Machine.{servedOf, chosenOf, continuedOf, begunOf, serviceOf}

@@ -1,7 +1,7 @@
 -- An action's slot takes one at least from what is left of it: its command is sent, or a distance that it waits for gets shorter.
 use Prim.Native.Nat.{ℕ, zero, suc, _+_, _-_, _≤_, _<_, min, max}
 use mathlib.Core.Path.{_≡_, refl, sym, ap, _∙_}
-use mathlib.Core.Bool.{Bool, true, false, cond, not, true≢false}
+use mathlib.Core.Bool.{Bool, true, false, true≢false}
 use native.Mathlib.Omega.{arith}
 use lib.Dec.{leb, eqb}
 use lib.Pow.{pow-mono}
@@ -16,7 +16,7 @@ use Rattle.command.specs.declared.Command.{Command}
 use Rattle.command.specs.declared.Command.the-variants.{Nop, Act, Read, Wrt, Pre, Deac, Refr}
 use Rattle.device.specs.declared.Past.{Past}
 use Rattle.device.specs.declared.BankPast.{BankPast}
-use Rattle.device.specs.View.{Event, refresh, mode, read, close, activate, precharge, write, fits, marksOf, rowOf, allClosed}
+use Rattle.device.specs.View.{Event, refresh, mode, read, close, activate, precharge, fits, marksOf, rowOf, allClosed}
 use Rattle.device.specs.Rules.{legalOf}
 use Rattle.device.specs.Ages.{cap, bankOf, ageOf, byAges, agedOf, bankSentOf, sentOf}
 use Rattle.device.proofs.Slot.{Known, Aged, bank-sent, sent-age, sent-opened, aged-sent}
@@ -28,8 +28,7 @@ use Rattle.refresh.specs.declared.Counters.{Counters}
 use Rattle.refresh.specs.Counting.{refreshedOf}
 use Rattle.service.specs.declared.Action.{Action}
 use Rattle.service.specs.declared.Action.the-variants.{Idle, Access, Data, Turn, Close, Refresh, Recover}
-use Rattle.service.specs.declared.Effect.{Effect}
-use Rattle.service.specs.Actions.{isIdle, quiet, sendOf, readOf, writtenOf, writeOf, transferOf, accessOf, takenOf, dataOf, recoveryOf, refreshOf, actOf}
+use Rattle.service.specs.Actions.{Effect, isIdle, quiet, sendOf, readOf, writtenOf, writeOf, transferOf, accessOf, takenOf, dataOf, recoveryOf, refreshOf, actOf}
 use Rattle.model.specs.Condition.{isRefr}
 use Rattle.model.proofs.OrderSend.{if-both}
 use Rattle.model.proofs.Invariant.{short, bankHeld, allHeld, othersHeld, transferLeft, activateLeft, closeLeft, accessLeft, leftOf, dueOf, needOf, Settled, Owing}

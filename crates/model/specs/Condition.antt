@@ -15,17 +15,16 @@ use Rattle.address.specs.Map.{capacityOf, cellOf}
 use Rattle.device.specs.View.{allClosed}
 use Rattle.device.specs.Rules.{legalOf}
 use Rattle.device.specs.Ages.{byAges, bankOf, rowKept}
-use Rattle.device.specs.History.{Sent, History, allowed, byHistory, openRow}
+use Rattle.device.specs.History.{History, allowed, byHistory, openRow}
 use Rattle.queue.specs.declared.Kind.{Kind}
 use Rattle.refresh.specs.Counting.{expiriesOf, tickOf}
 use Rattle.startup.specs.Start.{isDone}
 use Rattle.service.specs.declared.Report.{Report}
-use Rattle.sequencer.specs.declared.Machine.{Machine}
 use Rattle.sequencer.specs.declared.Reading.{Reading}
 use Rattle.sequencer.specs.declared.Requested.{Requested}
 use Rattle.sequencer.specs.declared.Slot.{Slot}
 use Rattle.sequencer.specs.Calls.{configureOf, recordNumberOf, lastNumber, readRequestOf, writeRequestOf, backlogOf}
-use Rattle.model.specs.Sdram.{Cells, Sdram, takes}
+use Rattle.model.specs.Sdram.{Cells, takes}
 use Rattle.model.specs.World.{World, Call, read, write, slot, backlog, slotIn, startWorld, after}
 
 -- Service slots and their REFRs, off the SDRAM's history.

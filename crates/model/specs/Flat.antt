@@ -1,6 +1,6 @@
 -- The flat memory (document 01, "The third condition in full"): it is fed the requests' arguments and answers, and nothing else.
 use Prim.Native.Nat.{ℕ, _+_}
-use mathlib.Core.Bool.{Bool, cond}
+use mathlib.Core.Bool.{cond}
 use lib.Dec.{eqb}
 use Rattle.config.specs.declared.Geometry.{Geometry}
 use Rattle.address.specs.Map.{cellOf}

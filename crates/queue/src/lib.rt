@@ -150,7 +150,7 @@ impl Queue {
     }
 
     // How many requests are queued.
-    pub fn held(self) -> usize
+    fn held(self) -> usize
         ensures { λ r. ⌜ r ≡ length (heldOf self) ⌝ }
     {
         if 8 <= self.count {
@@ -160,7 +160,7 @@ impl Queue {
     }
 
     // Has an older queued request the same block?
-    pub fn blocked(self, at: usize) -> bool
+    fn blocked(self, at: usize) -> bool
         ensures { λ r. ⌜ r ≡ blockedOf (heldOf self) at ⌝ }
     {
         let n = self.held();

@@ -24,7 +24,7 @@ tickOf c rr =
     (record { interval = rr; backlog = raisedOf (c .backlog) })
     (record { interval = c .interval - 1; backlog = c .backlog })
 
--- a service REFR is sent: the backlog falls by one
+-- a service REFR is sent: the backlog falls by one; a backlog of 0, which a record made by calls never has there, stays
 unfoldable pub refreshedOf : Counters → Counters
 refreshedOf c =
     cond (eqb (c .backlog) 0)

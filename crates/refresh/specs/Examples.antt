@@ -3,7 +3,6 @@ use mathlib.Core.Path.{_≡_, refl}
 use mathlib.Core.Bool.{Bool, true, false}
 use mathlib.Core.List.{List, [], _∷_, map}
 use Prim.Native.Nat.{ℕ, zero, suc}
-use Rattle.refresh.specs.declared.Level.{Level}
 use Rattle.refresh.specs.declared.Level.the-variants.{Clear, May, Release, Need, Must}
 use Rattle.refresh.specs.declared.Counters.{Counters}
 use Rattle.refresh.specs.Urgency.{levelOf, runOf}

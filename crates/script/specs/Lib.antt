@@ -1,3 +1,4 @@
+-- REPLAY.md, "Script".
 pub mod Number
 pub mod Line
 pub mod Examples

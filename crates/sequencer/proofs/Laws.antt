@@ -11,7 +11,7 @@ use lib.Seq.{drop-cons, getD-take, length-take-le}
 use borrow.Author.Tests.{lt-ltb, le-leb, leb-true, leb-false, ltb-true, eqb-true, eqb-false}
 use Rattle.config.specs.declared.Geometry.{Geometry}
 use Rattle.config.specs.declared.Config.{Config}
-use Rattle.config.specs.Accepted.{Shaped, Accepted, acceptedOf}
+use Rattle.config.specs.Accepted.{Accepted, acceptedOf}
 use Rattle.config.proofs.Laws.{accepted-true, true-accepted}
 use Rattle.address.specs.Map.{Holds, holdsOf, addressNumberOf, capacityOf}
 use Rattle.address.proofs.Laws.{holds-true, true-holds, address-good}

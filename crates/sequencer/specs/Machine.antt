@@ -13,14 +13,12 @@ use Rattle.refresh.specs.declared.Level.{Level}
 use Rattle.refresh.specs.Counting.{startOf, tickOf}
 use Rattle.refresh.specs.Urgency.{levelOf, runOf}
 use Rattle.startup.specs.declared.Stage.the-variants.{Done}
-use Rattle.startup.specs.declared.Started.{Started}
-use Rattle.startup.specs.Start.{firstStage, isDone, startSlotOf}
+use Rattle.startup.specs.Start.{Started, firstStage, isDone, startSlotOf}
 use Rattle.service.specs.declared.Action.{Action}
 use Rattle.service.specs.declared.Action.the-variants.{Idle}
 use Rattle.service.specs.declared.Report.{Report}
-use Rattle.service.specs.declared.Effect.{Effect}
 use Rattle.service.specs.Choice.{choiceOf}
-use Rattle.service.specs.Actions.{isIdle, actOf}
+use Rattle.service.specs.Actions.{Effect, isIdle, actOf}
 use Rattle.sequencer.specs.declared.Machine.{Machine}
 use Rattle.sequencer.specs.declared.Slot.{Slot}
 
@@ -94,7 +92,7 @@ servedOf m run e =
       };
     }
 
--- if no action is under way, one is chosen, with the Must run flag as of this choice
+-- the choice at a level, with the Must run flag as of it
 unfoldable pub chosenOf : Machine → Level → Action
 chosenOf m level =
     choiceOf (runOf (m .run) level) level (oldestOf Read (heldOf (m .queue))) (oldestOf Write (heldOf (m .queue))) (allClosed (byAges (m .past)))
@@ -107,7 +105,7 @@ continuedOf m n bus = servedOf m (m .run) (actOf (m .config) (m .past) n (m .que
 unfoldable pub begunOf : Machine → Counters → Level → ℕ → Slot
 begunOf m n level bus = servedOf m (runOf (m .run) level) (actOf (m .config) (m .past) n (m .queue) (chosenOf m level) bus)
 
--- a service slot: first the counters, then the choice, then the command
+-- a service slot after its counters: the choice, if no action is under way, then the command
 unfoldable pub serviceOf : Machine → Counters → ℕ → Slot
 serviceOf m n bus = cond (isIdle (m .action)) (begunOf m n (levelOf (n .backlog)) bus) (continuedOf m n bus)
 

@@ -1,6 +1,6 @@
 -- Soundness of a machine record, the test for number 9. docs/SOUNDNESS.md says it in words.
 use Prim.Native.Nat.{ℕ, _*_}
-use mathlib.Core.Bool.{Bool, true, false, cond, _&&_}
+use mathlib.Core.Bool.{Bool, true, cond, _&&_}
 use mathlib.Core.List.{List, [], _∷_}
 use lib.Dec.{leb, ltb}
 use Rattle.config.specs.declared.Geometry.{Geometry}

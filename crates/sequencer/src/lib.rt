@@ -25,7 +25,7 @@ ghost use Rattle.address.specs.Map.{capacityOf};
 ghost use Rattle.refresh.specs.Urgency.{runOf};
 ghost use Rattle.startup.specs.Trial.{byTrial};
 ghost use Rattle.service.specs.Actions.{isIdle};
-ghost use Rattle.service.specs.Plan.{leftOf, countedOf, carriedOut, putOff, byPlan};
+ghost use Rattle.service.specs.Plan.{queueAfter, countersAfter, carriedOut, putOff, byPlan};
 ghost use Rattle.sequencer.specs.Machine.{blankOf, machineOf, startedOf, servedOf, chosenOf, serviceOf, stepOf};
 ghost use Rattle.sequencer.specs.Sound.{rangedOf, stagedOf, insideOf, queuedOf, countingOf, fitOf, soundOf};
 ghost use Rattle.sequencer.specs.Calls.{
@@ -126,9 +126,9 @@ fn configured_by(setting: Setting) -> Configured
     }
 }
 
-// The queue, where a place is left or not.
-fn left(q: Queue, leaves: Found) -> Queue
-    ensures { λ r. ⌜ r ≡ leftOf q leaves ⌝ }
+// The queue without the request that leaves, if one does.
+fn queue_after(q: Queue, leaves: Found) -> Queue
+    ensures { λ r. ⌜ r ≡ queueAfter q leaves ⌝ }
 {
     match leaves {
         Found::At(i) => q.remove(i),
@@ -136,9 +136,9 @@ fn left(q: Queue, leaves: Found) -> Queue
     }
 }
 
-// The counters, after a REFR or not.
-fn counted(n: Counters, refreshes: bool) -> Counters
-    ensures { λ r. ⌜ r ≡ countedOf n refreshes ⌝ }
+// The counters, after a REFR if one was sent.
+fn counters_after(n: Counters, refreshes: bool) -> Counters
+    ensures { λ r. ⌜ r ≡ countersAfter n refreshes ⌝ }
 {
     if refreshes {
         return n.refreshed();
@@ -451,10 +451,10 @@ impl Machine {
         let config = self.config;
         let past = a.past;
         let stage = self.stage;
-        let counters = counted(ticked, plan.refreshes);
+        let counters = counters_after(ticked, plan.refreshes);
         let before = self.queue;
         let leaves = plan.leaves;
-        let queue = left(before, leaves);
+        let queue = queue_after(before, leaves);
         let action = plan.next;
         let machine = Machine {
             configured: true,
@@ -506,7 +506,7 @@ impl Machine {
         }
     }
 
-    // The machine after a service slot, with the Must run flag after it.
+    // A service slot by its plan: its command is tried, and the plan carried out or put off. `run` is the Must run flag after it.
     fn served(self, counters: Counters, run: bool, plan: Plan) -> Slot
         requires { ⌜ Shaped (self .config .geometry) ⌝ }
         ensures { λ r. ⌜ r ≡ servedOf self run (byPlan (self .config) (self .past) counters (self .queue) plan) ⌝ }
@@ -582,7 +582,7 @@ impl Machine {
             return self.service(counters, bus);
         }
         let config = self.config;
-        self.started(startup::tried(config, stage))
+        self.started(startup::next_trial(config, stage))
     }
 
     // One slot; `bus` is the halfword that the bus carries.

@@ -1,7 +1,6 @@
 -- A slot by its plan is the slot that the rules fix: action by action, and by whether the command is legal.
 use Prim.Native.Nat.{ℕ}
 use mathlib.Core.Path.{_≡_, refl}
-use mathlib.Core.Bool.{Bool, true, false, cond}
 use lib.Dec.{eqb, leb}
 use Rattle.config.specs.declared.Config.{Config}
 use Rattle.command.specs.declared.Command.{Command}
@@ -29,23 +28,23 @@ use Rattle.service.specs.Plan.{
   dataPlan,
   refreshPlan,
   planOf,
-  leftOf,
-  countedOf,
+  queueAfter,
+  countersAfter,
   carriedOut,
   putOff,
   byPlan,
 }
 
 rest-acts : (c : Config) (p : Past) (n : Counters) (q : Queue) (next : Action) → byPlan c p n q (restOf next) ≡ quiet p n q Nop next
-unfolding byPlan carriedOut putOff attemptOf carriedOf legalOf restOf plainOf leftOf countedOf quiet
+unfolding byPlan carriedOut putOff attemptOf carriedOf legalOf restOf plainOf queueAfter countersAfter quiet
 rest-acts c p n q next = refl
 
 plain-acts : (c : Config) (p : Past) (n : Counters) (q : Queue) (k : Command) (here next : Action) → byPlan c p n q (plainOf k here next) ≡ sendOf c p n q k here next
-unfolding byPlan carriedOut putOff attemptOf carriedOf restOf plainOf leftOf countedOf quiet sendOf
+unfolding byPlan carriedOut putOff attemptOf carriedOf restOf plainOf queueAfter countersAfter quiet sendOf
 plain-acts c p n q k here next = by-test (legalOf c (byAges p) k) (λ e. simp e) (λ e. simp e)
 
 write-acts : (c : Config) (p : Past) (n : Counters) (q : Queue) (i : ℕ) (r : Request) → byPlan c p n q (writePlan i r) ≡ writeOf c p n q i r
-unfolding byPlan carriedOut putOff attemptOf carriedOf restOf plainOf leftOf countedOf quiet writePlan writeOf writtenOf
+unfolding byPlan carriedOut putOff attemptOf carriedOf restOf plainOf queueAfter countersAfter quiet writePlan writeOf writtenOf
 write-acts c p n q i r = by-test (legalOf c (byAges p) (Wrt (r .cell .bank) (r .cell .column) (r .halfword))) (λ e. simp e) (λ e. simp e)
 
 transfer-acts : (c : Config) (p : Past) (n : Counters) (q : Queue) (i : ℕ) (r : Request) (kind : Kind) → byPlan c p n q (transferPlan c i r kind) ≡ transferOf c p n q i r kind
@@ -63,7 +62,7 @@ access-acts c p n q i =
     (λ e. rw e (plain-acts c p n q _ _ _))
 
 taken-acts : (c : Config) (p : Past) (n : Counters) (q : Queue) (i bus : ℕ) → byPlan c p n q (takenPlan i (getOf q i .number) bus) ≡ takenOf p n q i bus
-unfolding byPlan carriedOut putOff attemptOf carriedOf legalOf takenPlan takenOf leftOf countedOf
+unfolding byPlan carriedOut putOff attemptOf carriedOf legalOf takenPlan takenOf queueAfter countersAfter
 taken-acts c p n q i bus = refl
 
 data-acts : (c : Config) (p : Past) (n : Counters) (q : Queue) (i left bus : ℕ) → byPlan c p n q (dataPlan q i left bus) ≡ dataOf p n q i left bus
@@ -71,7 +70,7 @@ unfolding dataPlan dataOf
 data-acts c p n q i left bus = by-test (leb left 1) (λ e. simp (e, taken-acts c p n q i bus)) (λ e. rw e (rest-acts c p n q _))
 
 refresh-acts : (c : Config) (p : Past) (n : Counters) (q : Queue) → byPlan c p n q (refreshPlan c) ≡ refreshOf c p n q
-unfolding byPlan carriedOut putOff attemptOf carriedOf restOf plainOf leftOf countedOf quiet refreshPlan refreshOf
+unfolding byPlan carriedOut putOff attemptOf carriedOf restOf plainOf queueAfter countersAfter quiet refreshPlan refreshOf
 refresh-acts c p n q = by-test (legalOf c (byAges p) Refr) (λ e. simp e) (λ e. simp e)
 
 pub plan-acts : (c : Config) (p : Past) (n : Counters) (q : Queue) (a : Action) (bus : ℕ) → byPlan c p n q (planOf c p q a bus) ≡ actOf c p n q a bus

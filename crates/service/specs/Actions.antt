@@ -19,7 +19,15 @@ use Rattle.service.specs.declared.Action.{Action}
 use Rattle.service.specs.declared.Action.the-variants.{Idle, Access, Data, Turn, Close, Refresh, Recover}
 use Rattle.service.specs.declared.Report.{Report}
 use Rattle.service.specs.declared.Report.the-variants.{Nothing}
-use Rattle.service.specs.declared.Effect.{Effect}
+
+-- what a slot does: the slot's command and report, and what is known after it
+pub record Effect : Type 0 where
+  pub past : Past
+  pub counters : Counters
+  pub queue : Queue
+  pub action : Action
+  pub command : Command
+  pub report : Report
 
 -- is no action under way?
 abbrev pub isIdle : Action → Bool

@@ -1,5 +1,4 @@
 -- The choice of an action, rules 1 to 6 (document 01, "A service slot").
-use Prim.Native.Nat.{ℕ}
 use mathlib.Core.Bool.{Bool, true, false, cond}
 use Rattle.refresh.specs.declared.Level.{Level}
 use Rattle.refresh.specs.declared.Level.the-variants.{Clear, May, Release, Need, Must}

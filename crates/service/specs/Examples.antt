@@ -25,9 +25,9 @@ use Rattle.refresh.specs.Urgency.{levelOf, runOf}
 use Rattle.service.specs.declared.Action.{Action}
 use Rattle.service.specs.declared.Action.the-variants.{Idle, Access, Data, Turn, Close, Refresh, Recover}
 use Rattle.service.specs.declared.Report.{Report}
-use Rattle.service.specs.declared.Effect.{Effect}
 use Rattle.service.specs.Choice.{fromRule5, fromRule3, choiceOf}
 use Rattle.service.specs.Actions.{
+  Effect,
   isIdle,
   quiet,
   sendOf,

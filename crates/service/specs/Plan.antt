@@ -1,5 +1,5 @@
 -- How the code goes about a slot: a plan from the action, the attempt to send its command, and the plan carried out or put off.
--- proofs/Laws.antt shows that this is what Actions says, for every action.
+-- Nothing here has to be believed: proofs/Laws.antt shows that it is what Actions says, for every action.
 use Prim.Native.Nat.{ℕ, _-_}
 use mathlib.Core.Bool.{Bool, true, false, cond}
 use lib.Dec.{eqb, leb}
@@ -21,9 +21,8 @@ use Rattle.refresh.specs.Counting.{refreshedOf}
 use Rattle.service.specs.declared.Action.{Action}
 use Rattle.service.specs.declared.Action.the-variants.{Idle, Access, Data, Turn, Close, Refresh, Recover}
 use Rattle.service.specs.declared.Report.{Report}
-use Rattle.service.specs.declared.Effect.{Effect}
 use Rattle.service.specs.declared.Plan.{Plan}
-use Rattle.service.specs.Actions.{recoveryOf}
+use Rattle.service.specs.Actions.{Effect, recoveryOf}
 
 -- k is tried, and nothing is reported
 unfoldable pub plainOf : Command → Action → Action → Plan
@@ -80,22 +79,22 @@ planOf c p q Close bus = plainOf Deac Close Refresh
 planOf c p q Refresh bus = refreshPlan c
 planOf c p q (Recover left) bus = restOf (recoveryOf (left - 1))
 
--- the queue, where a place is left or not
-unfoldable pub leftOf : Queue → Found → Queue
-leftOf q (At i) = removeOf q i
-leftOf q Found.Nothing = q
+-- the queue without the request that leaves, if one does
+unfoldable pub queueAfter : Queue → Found → Queue
+queueAfter q (At i) = removeOf q i
+queueAfter q Found.Nothing = q
 
--- the counters, after a REFR or not
-unfoldable pub countedOf : Counters → Bool → Counters
-countedOf n refreshes = cond refreshes (refreshedOf n) n
+-- the counters, after a REFR if one was sent
+unfoldable pub countersAfter : Counters → Bool → Counters
+countersAfter n refreshes = cond refreshes (refreshedOf n) n
 
 -- what a slot does whose plan is carried out, its command sent
 unfoldable pub carriedOut : Counters → Queue → Plan → Attempt → Effect
 carriedOut n q plan a =
     record {
       past = a .past;
-      counters = countedOf n (plan .refreshes);
-      queue = leftOf q (plan .leaves);
+      counters = countersAfter n (plan .refreshes);
+      queue = queueAfter q (plan .leaves);
       action = plan .next;
       command = a .command;
       report = plan .report;

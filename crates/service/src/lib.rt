@@ -1,4 +1,5 @@
-// Owns a service slot's choice and actions (document 01, "A service slot"): rules 1 to 6, accesses, refreshes and reports.
+// Owns a service slot's choice and actions (document 01, "A service slot"): rules 1 to 6, and the plan of a slot
+// for accesses, refreshes and reports.
 use command::Command;
 use config::Config;
 use device::Past;
@@ -6,7 +7,6 @@ use queue::Found;
 use queue::Kind;
 use queue::Queue;
 use queue::Request;
-use refresh::Counters;
 use refresh::Level;
 ghost use Rattle.service.specs.Choice.{accessOr, needs, idleRefresh, fromRule5, fromRule3, choiceOf};
 ghost use Rattle.service.specs.Actions.{isIdle, recoveryOf};
@@ -48,17 +48,6 @@ pub enum Report {
     Nothing,
     Read(u32, u16),
     Write(u32),
-}
-
-// What a slot does: the slot's command and report, and what is known after it. The definitions speak of it; the code makes a plan instead,
-// so that the queue is not copied along.
-pub struct Effect {
-    pub past: Past,
-    pub counters: Counters,
-    pub queue: Queue,
-    pub action: Action,
-    pub command: Command,
-    pub report: Report,
 }
 
 // What a slot is to do: the command that it tries, and the action after it where that is not sent and where it is. Where it is sent, also

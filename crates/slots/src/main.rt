@@ -123,7 +123,7 @@ fn tell_slot(t: u64, command: Command, report: Report) {
     tell_report(report);
 }
 
-// What an SDRAM has on the bus in slot t; it ignores the rest.
+// What an SDRAM has on the bus in slot t; the machine ignores the bus in all other slots.
 fn bus(t: u64, due: u64) -> u16 {
     if t == due {
         return HALFWORD;

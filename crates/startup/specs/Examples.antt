@@ -1,7 +1,7 @@
 -- Worked examples by computation: the whole initialisation of document 01's E1 (its slots are E5's) and E4 machines, as one table.
 use Prim.Native.Nat.{ℕ, zero, suc, _-_, _+_}
 use mathlib.Core.Path.{_≡_, refl}
-use mathlib.Core.Bool.{Bool, true, false, cond}
+use mathlib.Core.Bool.{true, false, cond}
 use mathlib.Core.List.{List, [], _∷_, _++_, map}
 use lib.ListN.{replicate}
 use Rattle.config.specs.declared.Config.{Config}
@@ -16,8 +16,7 @@ use Rattle.device.specs.Ages.{freshOf, bankOf, agedOf, bankSentOf, banksSentOf,
 use Rattle.device.specs.History.{Sent}
 use Rattle.startup.specs.declared.Stage.{Stage}
 use Rattle.startup.specs.declared.Stage.the-variants.{Pause, Close, Refresh, Mode, Settle, Done}
-use Rattle.startup.specs.declared.Started.{Started}
-use Rattle.startup.specs.Start.{isDone, firstStage, carried, tried, pausedOf, refreshedOf, startSlotOf}
+use Rattle.startup.specs.Start.{Started, isDone, firstStage, carried, tried, pausedOf, refreshedOf, startSlotOf}
 
 -- the configurations of E1 and E4
 abbrev tight : Config

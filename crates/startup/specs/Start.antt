@@ -10,7 +10,12 @@ use Rattle.device.specs.Rules.{legalOf}
 use Rattle.device.specs.Ages.{byAges, sentOf}
 use Rattle.startup.specs.declared.Stage.{Stage}
 use Rattle.startup.specs.declared.Stage.the-variants.{Pause, Close, Refresh, Mode, Settle, Done}
-use Rattle.startup.specs.declared.Started.{Started}
+
+-- what a slot does: what is known of the device after it, the next stage, and the slot's command
+pub record Started : Type 0 where
+  pub past : Past
+  pub stage : Stage
+  pub command : Command
 
 -- have the service slots begun?
 abbrev pub isDone : Stage → Bool

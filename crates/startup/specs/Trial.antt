@@ -1,5 +1,5 @@
 -- How the code goes about a slot of the initialisation: a trial from the stage, the attempt to send its command, and the stage after that.
--- proofs/Laws.antt shows that this is what Start says, for every stage.
+-- Nothing here has to be believed: proofs/Laws.antt shows that it is what Start says, for every stage.
 use Prim.Native.Nat.{_*_}
 use mathlib.Core.Bool.{Bool, cond}
 use Rattle.config.specs.declared.Config.{Config}
@@ -10,9 +10,8 @@ use Rattle.device.specs.declared.Attempt.{Attempt}
 use Rattle.device.specs.Ages.{attemptOf}
 use Rattle.startup.specs.declared.Stage.{Stage}
 use Rattle.startup.specs.declared.Stage.the-variants.{Pause, Close, Refresh, Mode, Settle, Done}
-use Rattle.startup.specs.declared.Started.{Started}
 use Rattle.startup.specs.declared.Trial.{Trial}
-use Rattle.startup.specs.Start.{pausedOf, refreshedOf}
+use Rattle.startup.specs.Start.{Started, pausedOf, refreshedOf}
 
 -- k is tried
 unfoldable pub trial : Command → Stage → Stage → Trial

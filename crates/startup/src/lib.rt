@@ -1,7 +1,6 @@
 // Owns the initialisation of the device (document 01, "Start"): the pause, DEAC, eight REFR, MRS and a last NOP.
 use command::Command;
 use config::Config;
-use device::Past;
 ghost use Rattle.startup.specs.Start.{isDone, firstStage, pausedOf, refreshedOf};
 ghost use Rattle.startup.specs.Trial.{trial, waitOf, trialOf, stageAfter};
 ghost use mathlib.Core.Path.{_≡_};
@@ -20,14 +19,6 @@ pub enum Stage {
     Settle,
     // Nothing: service slots.
     Done,
-}
-
-// A slot of the initialisation: what is known of the device after it, the next stage, and the slot's command. The definitions speak of it;
-// the code makes a trial instead.
-pub struct Started {
-    pub past: Past,
-    pub stage: Stage,
-    pub command: Command,
 }
 
 // What a slot is to do: the command that it tries, and the stage after it where that is not sent and where it is.
@@ -97,7 +88,7 @@ fn refreshed(count: u8) -> Stage
 }
 
 // What a slot of the initialisation is to do; where it is over, a NOP.
-pub fn tried(c: Config, stage: Stage) -> Trial
+pub fn next_trial(c: Config, stage: Stage) -> Trial
     ensures { λ r. ⌜ r ≡ trialOf c stage ⌝ }
 {
     match stage {

@@ -1,1 +1,2 @@
+-- Laws of a text, for this crate's proofs.
 pub mod Laws

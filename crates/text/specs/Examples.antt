@@ -1,7 +1,5 @@
 -- Worked examples of `Spelling`.
-use Prim.Native.Nat.{ℕ}
 use mathlib.Core.Path.{_≡_, refl}
-use mathlib.Core.List.{List, [], _∷_}
 use Rattle.text.specs.Spelling.{ascii, letters, saidOf, emptyOf, byteOf, spelledOf, wordOf, decimalOf}
 
 -- a word, a space and a number, of the most digits that it can have

@@ -1,2 +1,3 @@
+-- A text, piece by piece.
 pub mod Spelling
 pub mod Examples

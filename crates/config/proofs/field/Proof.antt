@@ -1,6 +1,4 @@
 -- `config::field` meets its contract: both powers are what `power` says, and neither is 0.
-use Prim.Native.Nat.{_<_, _^_, zero}
-use mathlib.Core.Path.{sym, subst}
 use borrow.Author.Needs.{needs}
 use lib.Pow.{pow-pos}
 use native.Mathlib.Omega.{arith}

@@ -1,5 +1,4 @@
 -- The tests and calls on the way to each `returns` decide the definition's case.
-use borrow.Author.Needs.{needs}
 use Rattle.config.proofs.outside.Statement.{statement}
 use Rattle.config.proofs.outside.Tie as tie
 use borrow.Author.Tests.{le-leb, le-ltb, lt-leb, lt-ltb}

@@ -1,5 +1,4 @@
 -- `config::power` meets its contract: below 32 the shift loses no bit.
-use Prim.Native.Nat.{_+_, _≤_, _<_, _*_, _^_, _%_}
 use borrow.Author.Needs.{needs}
 use native.Mathlib.Omega.{arith}
 use native.Mathlib.Nat.{one-mul}

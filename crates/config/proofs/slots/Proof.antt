@@ -1,5 +1,5 @@
 -- A field of at most five bits is below 32.
-use Prim.Native.Nat.{ℕ, _<_, _≤_, _/_, _%_, _^_}
+use Prim.Native.Nat.{ℕ, _<_, _≤_, _/_, _^_}
 use native.Mathlib.Nat.{mod-lt}
 use native.Mathlib.Omega.{arith}
 use lib.Pow.{pow-pos, pow-mono}

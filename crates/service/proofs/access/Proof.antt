@@ -1,3 +1,4 @@
+-- The request, its bank's past and the two tests are the definition's.
 use borrow.Author.Needs.{needs}
 use Rattle.service.proofs.access.Statement.{statement}
 use Rattle.service.proofs.access.Tie as tie

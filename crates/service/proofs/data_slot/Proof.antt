@@ -1,3 +1,4 @@
+-- The test is the definition's.
 use borrow.Author.Needs.{needs}
 use Rattle.service.proofs.data_slot.Statement.{statement}
 use Rattle.service.proofs.data_slot.Tie as tie

@@ -1,3 +1,4 @@
+-- Field by field.
 use borrow.Author.Needs.{needs}
 use Rattle.service.proofs.plain.Statement.{statement}
 use Rattle.service.proofs.plain.Tie as tie

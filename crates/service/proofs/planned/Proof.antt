@@ -1,3 +1,4 @@
+-- Action by action.
 use borrow.Author.Needs.{needs}
 use Rattle.service.proofs.planned.Statement.{statement}
 use Rattle.service.proofs.planned.Tie as tie

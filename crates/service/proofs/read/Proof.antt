@@ -1,3 +1,4 @@
+-- The definition's command and actions.
 use borrow.Author.Needs.{needs}
 use Rattle.service.proofs.read.Statement.{statement}
 use Rattle.service.proofs.read.Tie as tie

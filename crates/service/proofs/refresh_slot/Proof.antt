@@ -1,3 +1,4 @@
+-- Field by field.
 use borrow.Author.Needs.{needs}
 use Rattle.service.proofs.refresh_slot.Statement.{statement}
 use Rattle.service.proofs.refresh_slot.Tie as tie

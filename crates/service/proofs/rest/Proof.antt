@@ -1,3 +1,4 @@
+-- A plan that tries NOP.
 use borrow.Author.Needs.{needs}
 use Rattle.service.proofs.rest.Statement.{statement}
 use Rattle.service.proofs.rest.Tie as tie

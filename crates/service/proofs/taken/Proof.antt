@@ -1,3 +1,4 @@
+-- Field by field.
 use borrow.Author.Needs.{needs}
 use Rattle.service.proofs.taken.Statement.{statement}
 use Rattle.service.proofs.taken.Tie as tie

@@ -1,3 +1,4 @@
+-- By the request's kind.
 use borrow.Author.Needs.{needs}
 use Rattle.service.proofs.transfer.Statement.{statement}
 use Rattle.service.proofs.transfer.Tie as tie

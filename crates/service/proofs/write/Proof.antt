@@ -1,3 +1,4 @@
+-- Field by field.
 use borrow.Author.Needs.{needs}
 use Rattle.service.proofs.write.Statement.{statement}
 use Rattle.service.proofs.write.Tie as tie

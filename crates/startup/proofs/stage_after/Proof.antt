@@ -1,4 +1,4 @@
-use borrow.Author.Needs.{needs}
+-- The test is the definition's.
 use Rattle.startup.proofs.stage_after.Statement.{statement}
 use Rattle.startup.proofs.stage_after.Tie as tie
 use Rattle.startup.specs.Trial.{trial}

@@ -1,3 +1,4 @@
+-- Field by field.
 use borrow.Author.Needs.{needs}
 use Rattle.startup.proofs.trying.Statement.{statement}
 use Rattle.startup.proofs.trying.Tie as tie

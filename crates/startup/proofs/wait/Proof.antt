@@ -1,3 +1,4 @@
+-- A trial of NOP.
 use borrow.Author.Needs.{needs}
 use Rattle.startup.proofs.wait.Statement.{statement}
 use Rattle.startup.proofs.wait.Tie as tie

@@ -5,15 +5,15 @@ use Rattle.sequencer.proofs.Machine.carried_out.Statement.{statement}
 use Rattle.sequencer.proofs.Machine.carried_out.Tie as tie
 use Rattle.sequencer.specs.Machine.{servedOf}
 
-counted-requires : tie.Need-counted-requires
-counted-requires c κs = search needs
+counters-after-requires : tie.Need-counters-after-requires
+counters-after-requires c κs = search needs
 
-left-requires : tie.Need-left-requires
-left-requires c κs = search needs
+queue-after-requires : tie.Need-queue-after-requires
+queue-after-requires c κs = search needs
 
 returns : tie.Need-returns
 unfolding servedOf carriedOut
-returns c = simp (← c .before .before .counted .ensures, ← c .left .ensures)
+returns c = simp (← c .before .before .counters-after .ensures, ← c .queue-after .ensures)
 
 pub carried-out-spec : {M : Type 1} → statement M
-carried-out-spec = tie.close (tie.spec counted-requires left-requires returns)
+carried-out-spec = tie.close (tie.spec counters-after-requires queue-after-requires returns)

@@ -3,7 +3,6 @@ use borrow.Author.Needs.{needs}
 use Rattle.service.specs.Plan.{byPlan}
 use Rattle.sequencer.proofs.Machine.served.Statement.{statement}
 use Rattle.sequencer.proofs.Machine.served.Tie as tie
-use Rattle.sequencer.specs.Machine.{servedOf}
 
 attempt-requires : tie.Need-attempt-requires
 attempt-requires c κs = search needs

@@ -18,8 +18,8 @@ returns : tie.Need-returns
 unfolding stepOf
 returns c = simp (← c .before .before .before .before .is-done .ensures, c .before .before .before .if1 .taken, ← c .before .tick .ensures, ← c .service .ensures)
 
-tried-requires : tie.Need-tried-requires
-tried-requires c κs = search needs
+next-trial-requires : tie.Need-next-trial-requires
+next-trial-requires c κs = search needs
 
 started-requires : tie.Need-started-requires
 started-requires c κs = search needs
@@ -28,7 +28,7 @@ returns-2 : tie.Need-returns-2
 unfolding stepOf
 returns-2 c =
     let a = c .before .before .before .before .before .args in
-    simp (← trial-starts (a .self .config) (a .self .past) (a .self .stage), ← c .before .before .before .before .is-done .ensures, c .before .before .before .if1 .left, ← c .before .tried .ensures, ← c .started .ensures)
+    simp (← trial-starts (a .self .config) (a .self .past) (a .self .stage), ← c .before .before .before .before .is-done .ensures, c .before .before .before .if1 .left, ← c .before .next-trial .ensures, ← c .started .ensures)
 
 pub step-spec : {M : Type 1} → statement M
 step-spec =
@@ -38,6 +38,6 @@ step-spec =
     tick-requires
     service-requires
     returns
-    tried-requires
+    next-trial-requires
     started-requires
     returns-2)

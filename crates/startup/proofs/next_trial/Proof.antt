@@ -1,6 +1,7 @@
+-- Stage by stage.
 use borrow.Author.Needs.{needs}
-use Rattle.startup.proofs.tried.Statement.{statement}
-use Rattle.startup.proofs.tried.Tie as tie
+use Rattle.startup.proofs.next_trial.Statement.{statement}
+use Rattle.startup.proofs.next_trial.Tie as tie
 use Rattle.startup.specs.Trial.{trialOf}
 
 enum-known-stage : tie.Need-enum-known-stage
@@ -75,8 +76,8 @@ returns-6 : tie.Need-returns-6
 unfolding trialOf
 returns-6 c = simp (c .before .enum-told4 .given .1, ← c .wait3 .ensures)
 
-pub tried-spec : {M : Type 1} → statement M
-tried-spec =
+pub next-trial-spec : {M : Type 1} → statement M
+next-trial-spec =
     tie.close
     (tie.spec
     enum-known-stage
