@@ -35,8 +35,8 @@ pub record Accepted (c : Config) : Type 0 where
   pub rrd-least : 1 ≤ c .rrd
   pub rrd-most : c .rrd ≤ 8
   pub rr-most : c .rr ≤ 8191
-  pub access-span : c .access ≡ max (c .ras) (c .wr) + c .rp + c .rc + c .rrd + c .rcd + c .latency + 2
-  pub refresh-span : c .refresh ≡ max (c .ras) (c .wr) + c .rp + c .rfc
+  pub access-span : c .access ≡ accessSpan (max (c .ras) (c .wr)) (c .rp) (c .rc) (c .rrd) (c .rcd) (c .latency)
+  pub refresh-span : c .refresh ≡ refreshSpan (max (c .ras) (c .wr)) (c .rp) (c .rfc)
   pub long-enough : c .access + 6 * c .refresh ≤ c .rr
 
 -- The test.
