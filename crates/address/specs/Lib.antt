@@ -1,3 +1,4 @@
 -- Document 01, "Address and cell".
 pub mod Map
 pub mod Standalone
+pub mod Memory

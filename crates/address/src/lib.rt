@@ -39,7 +39,7 @@ fn span(width: u8) -> u32
     requires { ⌜ width < 32 ⌝ }
     ensures { λ r. ⌜ r ≡ 2 ^ width ⌝ }
 {
-    config::power(width as u32)
+    words::power(width as u32)
 }
 
 // How many bytes the device holds.

@@ -5,8 +5,8 @@ use Rattle.text.specs.Spelling.{letters, emptyOf, byteOf, wordOf, decimalOf}
 use Rattle.address.specs.declared.ToCell.{ToCell}
 use Rattle.command.specs.declared.Command.{Command}
 use Rattle.command.specs.declared.Command.the-variants.{Nop, Act, Wrt, Pre, Deac, Refr, Mrs, Read as Fetch}
-use Rattle.service.specs.declared.Report.{Report}
-use Rattle.service.specs.declared.Report.the-variants.{Nothing, Read as ReadDone, Write as WriteDone}
+use Rattle.plan.specs.declared.Report.{Report}
+use Rattle.plan.specs.declared.Report.the-variants.{Nothing, Read as ReadDone, Write as WriteDone}
 use Rattle.answer.specs.declared.Answer.{Answer}
 use Rattle.answer.specs.declared.Answer.the-variants.{
   Config,

@@ -3,6 +3,7 @@ use address::Bank;
 use address::ToAddress;
 use address::ToCell;
 use command::Command;
+use plan::Report;
 use script::ADDRESS;
 use script::BACKLOG;
 use script::CELL;
@@ -10,7 +11,6 @@ use script::CONFIG;
 use script::READ;
 use script::SLOT;
 use script::WRITE;
-use service::Report;
 use text::Text;
 ghost use mathlib.Core.Path.{_≡_};
 ghost use Rattle.answer.specs.Output.{

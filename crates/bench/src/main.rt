@@ -2,8 +2,8 @@
 // the work of bench/baseline.c, on the proved machine (see bench/run).
 use command::Command;
 use libc::STDOUT_FILENO;
+use plan::Report;
 use sequencer::Machine;
-use service::Report;
 
 const SLOTS: u32 = 10000000;
 

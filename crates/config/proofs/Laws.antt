@@ -6,7 +6,7 @@ use mathlib.Core.Bool.{Bool, true, false, cond, _&&_, _||_, and-eq-true-iff, tru
 use mathlib.Core.List.{List, [], _∷_}
 use lib.Dec.{eqb, leb, ltb}
 use borrow.Author.Tests.{leb-true, ltb-false, eqb-true, eqb-false, eq-eqb, le-ltb}
-use Rattle.config.specs.Words.{fieldOf, NM, CL, IBANK, PAGESIZE, ROWSIZE, reservedMap, reservedAll}
+use Rattle.words.specs.Words.{fieldOf, NM, CL, IBANK, PAGESIZE, ROWSIZE, reservedMap, reservedAll}
 use Rattle.config.specs.Setting.{offeredOf, geometryOf, configOf, checkedOf, settingOf, mapNumberOf, refusedOf, tooShort, accessSpan, refreshSpan}
 use Rattle.config.specs.Accepted.{Shaped, Accepted, outsideOf, noneOf, shapedOf, distancesOf, spannedOf, acceptedOf}
 use Rattle.config.specs.declared.Geometry.{Geometry}

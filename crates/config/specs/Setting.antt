@@ -1,8 +1,8 @@
 -- From the four register words to a configuration, or to a number of document 01's table.
 use Prim.Native.Nat.{ℕ, _+_, _*_, max}
-use mathlib.Core.Bool.{Bool, true, false, cond, _&&_, not}
+use mathlib.Core.Bool.{Bool, cond, _&&_}
 use lib.Dec.{eqb, leb, ltb}
-use Rattle.config.specs.Words.{fieldOf, NM, CL, IBANK, PAGESIZE, ROWSIZE, RR, T-RFC, T-RP, T-RCD, T-WR, T-RAS, T-RC, T-RRD, reservedMap, reservedAll}
+use Rattle.words.specs.Words.{fieldOf, NM, CL, IBANK, PAGESIZE, ROWSIZE, RR, T-RFC, T-RP, T-RCD, T-WR, T-RAS, T-RC, T-RRD, reservedMap, reservedAll}
 use Rattle.config.specs.declared.Geometry.{Geometry}
 use Rattle.config.specs.declared.Config.{Config}
 use Rattle.config.specs.declared.Setting.{Setting}

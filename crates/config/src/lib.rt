@@ -1,7 +1,7 @@
-// Owns the register words: from document 01's four words to a configuration, or to one of the numbers 1, 2 and 3.
+// Owns the configuration: from document 01's four register words to it, or to one of the numbers 1, 2 and 3, and the test of a record.
 ghost use mathlib.Core.Path.{_≡_};
 ghost use Prim.Native.Nat.{_<_, _≤_, _^_, max};
-ghost use Rattle.config.specs.Words.{bits, fieldOf, anySet, cfgReserved, rowReserved, refReserved, timReserved, reservedMap, reservedAll};
+ghost use Rattle.words.specs.Words.{bits, fieldOf};
 ghost use Rattle.config.specs.Setting.{noConfig, offeredOf, geometryOf, configOf, tooShort, checkedOf, refusedOf, settingOf, mapNumberOf, slots, accessSpan, refreshSpan};
 ghost use Rattle.config.specs.Accepted.{outsideOf, shapedOf, distancesOf, spannedOf, acceptedOf};
 
@@ -34,119 +34,27 @@ pub struct Setting {
     pub config: Config,
 }
 
-// Two to the power n.
-pub fn power(n: u32) -> u32
-    requires { ⌜ n < 32 ⌝ }
-    ensures { λ r. ⌜ r ≡ 2 ^ n ⌝ }
-{
-    1 << n
-}
-
-// The number in `width` bits of a word, from bit `low` on.
-fn field(word: u32, low: u32, width: u32) -> u32
-    requires { ⌜ (low < 32) × (width < 32) ⌝ }
-    ensures { λ r. ⌜ r ≡ fieldOf word (bits low width) ⌝ }
-{
-    word / power(low) % power(width)
-}
-
-// Is a bit of CFG set that no field names?
-fn cfg_reserved(w: u32) -> bool
-    ensures { λ r. ⌜ r ≡ anySet cfgReserved w ⌝ }
-{
-    if field(w, 15, 17) != 0 {
-        return true;
-    }
-    if field(w, 12, 2) != 0 {
-        return true;
-    }
-    if field(w, 7, 2) != 0 {
-        return true;
-    }
-    if field(w, 3, 1) != 0 {
-        return true;
-    }
-    false
-}
-
-fn row_reserved(w: u32) -> bool
-    ensures { λ r. ⌜ r ≡ anySet rowReserved w ⌝ }
-{
-    if field(w, 3, 29) != 0 {
-        return true;
-    }
-    false
-}
-
-fn ref_reserved(w: u32) -> bool
-    ensures { λ r. ⌜ r ≡ anySet refReserved w ⌝ }
-{
-    if field(w, 13, 19) != 0 {
-        return true;
-    }
-    false
-}
-
-fn tim_reserved(w: u32) -> bool
-    ensures { λ r. ⌜ r ≡ anySet timReserved w ⌝ }
-{
-    if field(w, 23, 1) != 0 {
-        return true;
-    }
-    if field(w, 19, 1) != 0 {
-        return true;
-    }
-    if field(w, 7, 1) != 0 {
-        return true;
-    }
-    if field(w, 0, 4) != 0 {
-        return true;
-    }
-    false
-}
-
-fn map_reserved(cfg: u32, row: u32) -> bool
-    ensures { λ r. ⌜ r ≡ reservedMap cfg row ⌝ }
-{
-    if cfg_reserved(cfg) {
-        return true;
-    }
-    row_reserved(row)
-}
-
-fn all_reserved(cfg: u32, row: u32, refr: u32, tim: u32) -> bool
-    ensures { λ r. ⌜ r ≡ reservedAll cfg row refr tim ⌝ }
-{
-    if map_reserved(cfg, row) {
-        return true;
-    }
-    if ref_reserved(refr) {
-        return true;
-    }
-    tim_reserved(tim)
-}
-
 // Does every field of CFG and ROW hold a value that is offered?
 fn offered(cfg: u32, row: u32) -> bool
     ensures { λ r. ⌜ r ≡ offeredOf cfg row ⌝ }
 {
-    if field(cfg, 14, 1) != 1 {
+    if words::field(cfg, 14, 1) != 1 {
         return false;
     }
-    let latency = field(cfg, 9, 3);
+    let latency = words::field(cfg, 9, 3);
     if latency < 2 {
         return false;
     }
     if 3 < latency {
         return false;
     }
-    if 2 < field(cfg, 4, 3) {
+    if 2 < words::field(cfg, 4, 3) {
         return false;
     }
-    if 3 < field(cfg, 0, 3) {
+    if 3 < words::field(cfg, 0, 3) {
         return false;
     }
-    if 4 < field(row, 0, 3) {
+    if 4 < words::field(row, 0, 3) {
         return false;
     }
     true
@@ -157,9 +65,9 @@ pub fn shape(cfg: u32, row: u32) -> Geometry
     ensures { λ r. ⌜ r ≡ geometryOf cfg row ⌝ }
 {
     Geometry {
-        columns: 8 + field(cfg, 0, 3) as u8,
-        banks: field(cfg, 4, 3) as u8,
-        rows: 9 + field(row, 0, 3) as u8,
+        columns: 8 + words::field(cfg, 0, 3) as u8,
+        banks: words::field(cfg, 4, 3) as u8,
+        rows: 9 + words::field(row, 0, 3) as u8,
     }
 }
 
@@ -177,7 +85,7 @@ fn slots(tim: u32, low: u32, width: u32) -> u8
     requires { ⌜ (low < 32) × (width ≤ 5) ⌝ }
     ensures { λ r. ⌜ r ≡ slots (fieldOf tim (bits low width)) ⌝ }
 {
-    field(tim, low, width) as u8 + 1
+    words::field(tim, low, width) as u8 + 1
 }
 
 fn access_span(m: u8, rp: u8, rc: u8, rrd: u8, rcd: u8, latency: u8) -> u32
@@ -197,7 +105,7 @@ fn described(cfg: u32, row: u32, refr: u32, tim: u32) -> Config
     ensures { λ r. ⌜ r ≡ configOf cfg row refr tim ⌝ }
 {
     let geometry = shape(cfg, row);
-    let latency = field(cfg, 9, 3) as u8;
+    let latency = words::field(cfg, 9, 3) as u8;
     let rfc = slots(tim, 27, 5);
     let rp = slots(tim, 24, 3);
     let rcd = slots(tim, 20, 3);
@@ -216,7 +124,7 @@ fn described(cfg: u32, row: u32, refr: u32, tim: u32) -> Config
         ras,
         rc,
         rrd,
-        rr: field(refr, 0, 13) as u16,
+        rr: words::field(refr, 0, 13) as u16,
         access: access_span(m, rp, rc, rrd, rcd, latency) as u8,
         refresh: refresh_span(m, rp, rfc) as u8,
     }
@@ -276,7 +184,7 @@ fn checked(config: Config) -> Setting
 pub fn configure(cfg: u32, row: u32, refr: u32, tim: u32) -> Setting
     ensures { λ r. ⌜ r ≡ settingOf cfg row refr tim ⌝ }
 {
-    if all_reserved(cfg, row, refr, tim) {
+    if words::all_reserved(cfg, row, refr, tim) {
         return refused(1);
     }
     if offered(cfg, row) {
@@ -289,7 +197,7 @@ pub fn configure(cfg: u32, row: u32, refr: u32, tim: u32) -> Setting
 pub fn map_number(cfg: u32, row: u32) -> u8
     ensures { λ r. ⌜ r ≡ mapNumberOf cfg row ⌝ }
 {
-    if map_reserved(cfg, row) {
+    if words::map_reserved(cfg, row) {
         return 1;
     }
     if offered(cfg, row) {

@@ -1,5 +1,5 @@
--- A distance that is kept from the last command of a kind is kept from every one: the earlier slots are smaller.
-use Prim.Native.Nat.{ℕ, _+_, _≤_}
+-- A distance that is kept from the last command that starts it is kept from every one: the earlier slots are smaller.
+use Prim.Native.Nat.{ℕ, _+_, _≤_, _<_}
 use mathlib.Core.Path.{_≡_, refl}
 use mathlib.Core.Bool.{Bool, true, false, cond, _&&_}
 use mathlib.Core.Option.{some}
@@ -7,31 +7,37 @@ use mathlib.Core.List.{[], _∷_}
 use native.Mathlib.Omega.{arith}
 use lib.Dec.{leb}
 use borrow.Author.Tests.{leb-true, le-leb}
-use Rattle.device.specs.View.{Event, fits}
+use Rattle.device.specs.View.{Distance, starts}
 use Rattle.device.specs.History.{History, last, keptSince}
-use Rattle.device.proofs.Agree.{Falling, by-test}
+use Rattle.device.proofs.Tests.{by-test}
 
--- is slot `now` the distance d or more after every past command of the kind?
-unfoldable pub everyKept : Event → History → ℕ → ℕ → Bool
-everyKept e [] now d = true
-everyKept e (s ∷ h) now d = cond (fits e (s .command)) (leb (s .slot + d) now) true && everyKept e h now d
+-- slots that fall from `now` on
+unfoldable pub Falling : ℕ → History → Type 0
+Falling now [] = Unit {0}
+Falling now (s ∷ h) = (s .slot < now) × Falling (s .slot) h
 
-earlier-kept : (e : Event) (h : History) (t now d : ℕ) → Falling t h → t + d ≤ now → everyKept e h now d ≡ true
+-- is slot `now` so many slots or more after every past command that starts the distance?
+unfoldable pub everyKept : Distance → History → ℕ → ℕ → Bool
+everyKept d [] now n = true
+everyKept d (s ∷ h) now n = cond (starts d (s .command)) (leb (s .slot + n) now) true && everyKept d h now n
+
+earlier-kept : (d : Distance) (h : History) (t now n : ℕ) → Falling t h → t + n ≤ now → everyKept d h now n ≡ true
 unfolding everyKept Falling
-earlier-kept e [] t now d f i = refl
-earlier-kept e (s ∷ h) t now d f i =
-    let kept : s .slot + d ≤ now = omega (arith, f .0) in
-    rw (le-leb (s .slot + d) now kept, earlier-kept e h (s .slot) now d (f .1) kept) (go (fits e (s .command)))
+earlier-kept d [] t now n f i = refl
+earlier-kept d (s ∷ h) t now n f i =
+    let kept : s .slot + n ≤ now = omega (arith, f .0) in
+    rw (le-leb (s .slot + n) now kept, earlier-kept d h (s .slot) now n (f .1) kept) (go (starts d (s .command)))
   where
     go : (t : Bool) → (cond t true true && true) ≡ true
     go true = refl
     go false = refl
 
-pub last-enough : (e : Event) (h : History) (t now d : ℕ) → Falling t h → keptSince (last e h) now d ≡ everyKept e h now d
+pub last-enough : (d : Distance) (h : History) (t now n : ℕ) → Falling t h → keptSince (last d h) now n ≡ everyKept d h now n
 unfolding everyKept Falling last
-last-enough e [] t now d f = refl
-last-enough e (s ∷ h) t now d f = go (last-enough e h (s .slot) now d (f .1)) (fits e (s .command))
+last-enough d [] t now n f = refl
+last-enough d (s ∷ h) t now n f = go (last-enough d h (s .slot) now n (f .1)) (starts d (s .command))
   where
-    go : keptSince (last e h) now d ≡ everyKept e h now d → (b : Bool) → keptSince (cond b (some (s .slot)) (last e h)) now d ≡ (cond b (leb (s .slot + d) now) true && everyKept e h now d)
-    go r true = by-test (leb (s .slot + d) now) (λ y. rw (y, earlier-kept e h (s .slot) now d (f .1) (leb-true _ _ y))) (λ y. rw y)
+    go : keptSince (last d h) now n ≡ everyKept d h now n → (b : Bool)
+        → keptSince (cond b (some (s .slot)) (last d h)) now n ≡ (cond b (leb (s .slot + n) now) true && everyKept d h now n)
+    go r true = by-test (leb (s .slot + n) now) (λ y. rw (y, earlier-kept d h (s .slot) now n (f .1) (leb-true _ _ y))) (λ y. rw y)
     go r false = r

@@ -1,4 +1,5 @@
--- The two readings of the past agree.
-pub mod Slot
-pub mod Agree
+-- What no rule tells apart, that the last command is enough to measure from, and worked examples.
+pub mod Tests
+pub mod Alike
 pub mod Every
+pub mod Examples

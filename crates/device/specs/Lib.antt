@@ -2,6 +2,3 @@
 pub mod View
 pub mod Rules
 pub mod History
-pub mod Ages
-pub mod Bounds
-pub mod Examples

@@ -1,19 +1,55 @@
--- What the rules look at (document 01, "Commands and their distances"): the past commands, as the present slot sees them.
-use Prim.Native.Nat.{ℕ}
-use mathlib.Core.Bool.{Bool, true, false, _&&_, _||_, not}
+-- What the rules see of the past commands, as the present slot sees them (document 01, "Commands and their distances").
+use Prim.Native.Nat.{ℕ, _+_}
+use mathlib.Core.Bool.{Bool, true, false, _&&_, not}
+use mathlib.Core.Option.{Option, none, some}
 use lib.Dec.{eqb}
 use Rattle.address.specs.declared.Row.{Row}
+use Rattle.config.specs.declared.Config.{Config}
 use Rattle.command.specs.declared.Command.{Command}
 use Rattle.command.specs.declared.Command.the-variants.{Nop, Act, Read, Wrt, Pre, Deac, Refr, Mrs}
-use Rattle.device.specs.declared.Marks.{Marks}
 
--- the kinds of past command that distances are measured from:
--- any REFR; any MRS; any READ; any PRE or DEAC; an ACT of the bank; a PRE of the bank, or any DEAC; a WRT to the bank
-pub data Event : Type 0 where
-  refresh mode read close : Event
-  activate precharge write : ℕ → Event
+-- The distances by name, by rising rule. One of a bank has the bank's number.
+pub data Distance : Type 0 where
+  -- R2: tRFC after REFR, and 2 slots after MRS
+  refreshCycle modeRegister : Distance
+  -- R5: tRP after the bank's PRE or any DEAC
+  rowPrecharge : ℕ → Distance
+  -- R6: tRC; R7: tRRD, for the other banks; R9: tRCD; R12: tRAS, each after the bank's ACT
+  rowCycle rowToRow rowToColumn rowActive : ℕ → Distance
+  -- R10: CL + 2 after any READ
+  readToWrite : Distance
+  -- R13: tWR after a WRT to the bank
+  writeRecovery : ℕ → Distance
+  -- R15: tRP after any PRE or DEAC
+  anyPrecharge : Distance
 
--- of which of these kinds a command is, to bank b
+-- its length in slots
+abbrev pub slotsOf : Config → Distance → ℕ
+slotsOf c refreshCycle = c .rfc
+slotsOf c modeRegister = 2
+slotsOf c readToWrite = c .latency + 2
+slotsOf c anyPrecharge = c .rp
+slotsOf c (rowPrecharge b) = c .rp
+slotsOf c (rowCycle b) = c .rc
+slotsOf c (rowToRow b) = c .rrd
+slotsOf c (rowToColumn b) = c .rcd
+slotsOf c (rowActive b) = c .ras
+slotsOf c (writeRecovery b) = c .wr
+
+-- what a command is, as bank b sees it
+pub record Marks : Type 0 where
+  pub refr : Bool
+  pub mrs : Bool
+  pub read : Bool
+  -- any PRE or DEAC
+  pub close : Bool
+  -- an ACT of the bank
+  pub act : Bool
+  -- its PRE, or any DEAC
+  pub pre : Bool
+  -- a WRT to it
+  pub wrt : Bool
+
 unfoldable pub marksOf : Command → ℕ → Marks
 marksOf Nop b = record { refr = false; mrs = false; read = false; close = false; act = false; pre = false; wrt = false }
 marksOf (Act n r) b = record { refr = false; mrs = false; read = false; close = false; act = eqb (n .0) b; pre = false; wrt = false }
@@ -24,15 +60,18 @@ marksOf Deac b = record { refr = false; mrs = false; read = false; close = true;
 marksOf Refr b = record { refr = true; mrs = false; read = false; close = false; act = false; pre = false; wrt = false }
 marksOf (Mrs w) b = record { refr = false; mrs = true; read = false; close = false; act = false; pre = false; wrt = false }
 
--- is the command of the kind?
-abbrev pub fits : Event → Command → Bool
-fits refresh k = marksOf k 0 .refr
-fits mode k = marksOf k 0 .mrs
-fits read k = marksOf k 0 .read
-fits close k = marksOf k 0 .close
-fits (activate b) k = marksOf k b .act
-fits (precharge b) k = marksOf k b .pre
-fits (write b) k = marksOf k b .wrt
+-- does the command start the distance?
+abbrev pub starts : Distance → Command → Bool
+starts refreshCycle k = marksOf k 0 .refr
+starts modeRegister k = marksOf k 0 .mrs
+starts readToWrite k = marksOf k 0 .read
+starts anyPrecharge k = marksOf k 0 .close
+starts (rowPrecharge b) k = marksOf k b .pre
+starts (rowCycle b) k = marksOf k b .act
+starts (rowToRow b) k = marksOf k b .act
+starts (rowToColumn b) k = marksOf k b .act
+starts (rowActive b) k = marksOf k b .act
+starts (writeRecovery b) k = marksOf k b .wrt
 
 -- the row that a command opens in its bank; row 0 where it opens none
 unfoldable pub rowOf : Command → Row
@@ -45,21 +84,23 @@ rowOf Deac = record { 0 = 0 }
 rowOf Refr = record { 0 = 0 }
 rowOf (Mrs w) = record { 0 = 0 }
 
+-- All that the rules, the plan of a slot and the choice ask of the past.
 pub record View : Type 0 where
-  -- an MRS has been sent
-  pub moded : Bool
-  -- is the bank open?
-  pub opened : ℕ → Bool
-  -- does the present slot keep a distance, in slots, from the last command of the kind? From one not yet sent it does.
-  pub kept : Event → ℕ → Bool
+  -- has an MRS been sent?
+  pub programmed : Bool
+  -- the row of a bank that is open, if one is
+  pub row : ℕ → Option Row
+  -- does the present slot keep the distance from the last command that starts it? From one not yet sent it does.
+  pub kept : Distance → Bool
 
--- of every bank that a device can have
-abbrev pub everyBank : (ℕ → Bool) → Bool
-everyBank f = f 0 && f 1 && f 2 && f 3
+abbrev pub isSome : {A : Type 0} → Option A → Bool
+isSome none = false
+isSome (some a) = true
 
--- of every open bank
-abbrev pub everyOpen : View → (ℕ → Bool) → Bool
-everyOpen v f = everyBank (λ b. not (v .opened b) || f b)
+-- is the bank open?
+abbrev pub opened : View → ℕ → Bool
+opened v b = isSome (v .row b)
 
-unfoldable pub allClosed : View → Bool
-allClosed v = everyBank (λ b. not (v .opened b))
+-- by the banks' open rows: are all banks that a device can have closed?
+unfoldable pub allClosed : (ℕ → Option Row) → Bool
+allClosed row = not (isSome (row 0)) && (not (isSome (row 1)) && (not (isSome (row 2)) && not (isSome (row 3))))

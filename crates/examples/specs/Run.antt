@@ -5,14 +5,15 @@ use mathlib.Core.List.{List, [], _∷_, _++_}
 use lib.Dec.{leb}
 use Rattle.command.specs.declared.Command.{Command}
 use Rattle.command.specs.declared.Command.the-variants.{Nop, Act, Read, Wrt, Pre, Deac, Refr, Mrs}
-use Rattle.refresh.specs.Counting.{tickOf}
-use Rattle.refresh.specs.Urgency.{levelOf}
-use Rattle.startup.specs.Start.{isDone}
-use Rattle.service.specs.declared.Report.{Report}
-use Rattle.service.specs.Actions.{isIdle}
+use Rattle.device.specs.View.{allClosed}
+use Rattle.ages.specs.Ages.{rowAt}
+use Rattle.refresh.specs.declared.Counters.{Counters}
+use Rattle.plan.specs.declared.Report.{Report}
+use Rattle.plan.specs.Actions.{isIdle, inService}
+use Rattle.plan.specs.Choice.{currentOf}
+use Rattle.plan.specs.Slot.{tickedOf}
 use Rattle.sequencer.specs.declared.Machine.{Machine}
 use Rattle.sequencer.specs.declared.Slot.{Slot}
-use Rattle.sequencer.specs.Machine.{chosenOf}
 use Rattle.sequencer.specs.Calls.{readRequestOf, writeRequestOf, slotOf}
 use Rattle.model.specs.World.{Call, read, write, slot, backlog}
 
@@ -43,10 +44,11 @@ abbrev pub freeIn : ℕ → Bool → List Event
 freeIn s true = free s ∷ []
 freeIn s false = []
 
--- does an action occupy the next slot?
+-- does an action occupy the next slot: the one under way, or one that is chosen in it?
 unfoldable pub occupied : Machine → Bool
 occupied m =
-    isDone (m .stage) && not (isIdle (cond (isIdle (m .action)) (chosenOf m (levelOf (tickOf (m .counters) (m .config .rr) .backlog))) (m .action)))
+    let n : Counters = tickedOf (m .config) (m .counters) (m .control .action) in
+    inService (m .control .action) && not (isIdle (currentOf (m .control) (n .backlog) (m .queue) (allClosed (rowAt (m .past))) .control .action))
 
 -- the events of n slots, the first of them slot s, without those before slot `from`; `was` says whether an action occupied the slot before; the bus carries `bus`
 unfoldable pub watched : ℕ → ℕ → ℕ → Bool → ℕ → Machine → List Event
@@ -54,7 +56,7 @@ watched zero s from was bus m = []
 watched (suc n) s from was bus m =
     let now : Slot = slotOf m bus in
     let later : List Event = watched n (suc s) from (occupied m) bus (now .machine) in
-    cond (leb from s) (freeIn s (was && isIdle (m .action)) ++ (sentIn s (now .command) ++ (toldIn s (now .report) ++ later))) later
+    cond (leb from s) (freeIn s (was && isIdle (m .control .action)) ++ (sentIn s (now .command) ++ (toldIn s (now .report) ++ later))) later
 
 -- the machine after the requests of a list; its other calls do not count here
 unfoldable pub requested : Machine → List Call → Machine

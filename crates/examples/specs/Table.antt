@@ -9,7 +9,7 @@ use Rattle.address.specs.declared.ToCell.{ToCell}
 use Rattle.address.specs.Standalone.{toCellOf}
 use Rattle.command.specs.declared.Command.{Command}
 use Rattle.command.specs.declared.Command.the-variants.{Act, Read, Wrt, Pre, Deac, Refr, Mrs}
-use Rattle.service.specs.declared.Report.{Report}
+use Rattle.plan.specs.declared.Report.{Report}
 use Rattle.sequencer.specs.Calls.{configureOf}
 use Rattle.model.specs.World.{Call, read, write}
 use Rattle.examples.specs.Run.{Event, sent, told, free, watched, requested, numbersOf}

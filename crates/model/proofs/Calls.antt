@@ -8,18 +8,18 @@ use Rattle.queue.specs.declared.Kind.{Kind}
 use Rattle.sequencer.specs.declared.Machine.{Machine}
 use Rattle.sequencer.specs.declared.Requested.{Requested}
 use Rattle.sequencer.specs.Machine.{stepOf}
-use Rattle.sequencer.specs.Calls.{recordNumberOf, requestNumberOf, queuedRequest, acceptedOf, requestOf, slotOf, backlogOf}
+use Rattle.sequencer.specs.Calls.{recordNumberOf, requestNumberOf, queuedRequest, enqueuedOf, requestOf, slotOf, backlogOf}
 
 -- a request is accepted, or the record comes back
 pub request-cases : (m : Machine) (kind : Kind) (address halfword : ℕ) (P : Requested → Type 0)
-    → (requestNumberOf m address ≡ 0 → P (acceptedOf m (queuedRequest m kind address halfword)))
+    → (requestNumberOf m address ≡ 0 → P (enqueuedOf m (queuedRequest m kind address halfword)))
     → ((requestNumberOf m address ≡ 0 → ⊥) → P (record { number = requestNumberOf m address; request = 0; machine = m }))
     → P (requestOf m kind address halfword)
 unfolding requestOf
 request-cases m kind address halfword P yes′ no′ = by-test (eqb (requestNumberOf m address) 0) refl
   where
     by-test : (b : Bool) → eqb (requestNumberOf m address) 0 ≡ b
-        → P (cond b (acceptedOf m (queuedRequest m kind address halfword)) (record { number = requestNumberOf m address; request = 0; machine = m }))
+        → P (cond b (enqueuedOf m (queuedRequest m kind address halfword)) (record { number = requestNumberOf m address; request = 0; machine = m }))
     by-test true e = yes′ (eqb-true _ _ e)
     by-test false e = no′ (eqb-false _ _ e)
 

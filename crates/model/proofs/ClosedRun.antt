@@ -5,27 +5,38 @@ use mathlib.Core.Path.{_≡_, refl}
 use mathlib.Core.Bool.{true}
 use mathlib.Core.List.{List, [], _∷_, _++_}
 use lib.ListN.{length, take, drop}
-use Rattle.config.specs.Words.{reservedMap, reservedAll}
+use Rattle.words.specs.Words.{reservedMap, reservedAll}
 use Rattle.config.specs.Setting.{offeredOf, geometryOf, configOf, checkedOf, settingOf}
 use Rattle.address.specs.Map.{capacityOf, addressNumberOf, cellOf, holdsOf, cellAt}
 use Rattle.device.specs.View.{allClosed, marksOf, rowOf}
-use Rattle.device.specs.Rules.{legalOf, R2, R7, R12-all, R13-all}
-use Rattle.device.specs.Ages.{freshOf, bankOf, agedOf, bankSentOf, banksSentOf, sentOf}
+use Rattle.device.specs.Rules.{R7, R12-open, R13-open, R14, requirements, legalOf, carriedOf}
+use Rattle.device.specs.History.{last, openRow, startLog, fed}
+use Rattle.ages.specs.Ages.{freshOf, openedOf, rowIn, rowAt, agedOf, agesAfter, sentOf}
 use Rattle.queue.specs.Places.{without, emptyOf, acceptOf, removeOf, getOf}
 use Rattle.queue.specs.Oldest.{blockedOf, readyOf, oldestOf}
-use Rattle.refresh.specs.Counting.{startOf, tickOf, refreshedOf}
+use Rattle.queue.specs.Sound.{soundQueue}
+use Rattle.refresh.specs.Counting.{startOf, tickOf, refreshedOf, soundCounters}
 use Rattle.refresh.specs.Urgency.{levelOf}
-use Rattle.startup.specs.Start as start
-use Rattle.startup.specs.Start.{carried, tried, pausedOf, startSlotOf}
-use Rattle.service.specs.Choice.{fromRule5, fromRule3, choiceOf}
-use Rattle.service.specs.Actions.{quiet, sendOf, readOf, writtenOf, writeOf, transferOf, accessOf, takenOf, dataOf, recoveryOf, refreshOf, actOf}
-use Rattle.sequencer.specs.Machine.{blankOf, machineOf, startedOf, servedOf, chosenOf, continuedOf, begunOf, serviceOf, stepOf}
-use Rattle.sequencer.specs.Sound.{countingOf, stagedOf, fitOf, soundOf}
-use Rattle.config.specs.Accepted.{acceptedOf as configAccepted, shapedOf, distancesOf, spannedOf}
-use Rattle.sequencer.specs.Calls.{configuredBy, configureOf, recordNumberOf, roomNumberOf, requestNumberOf, queuedRequest, acceptedOf, requestOf, slotOf}
-use Rattle.device.specs.History.{last, openRow, startLog, fed}
+use Rattle.plan.specs.Actions.{soundAction}
+use Rattle.plan.specs.Plan as plan
+use Rattle.plan.specs.Choice.{rulesOf, choiceOf, currentOf}
+use Rattle.plan.specs.Slot.{tickedOf, turnOf}
 use Rattle.sequencer.specs.declared.Machine.{Machine}
-use Rattle.sequencer.specs.Calls.{readRequestOf}
+use Rattle.sequencer.specs.Machine.{blankOf, machineOf, stepOf}
+use Rattle.sequencer.specs.Sound.{fitOf, soundOf}
+use Rattle.config.specs.Accepted.{acceptedOf as configAccepted, shapedOf, distancesOf, spannedOf}
+use Rattle.sequencer.specs.Calls.{
+  configuredBy,
+  configureOf,
+  recordNumberOf,
+  roomNumberOf,
+  requestNumberOf,
+  queuedRequest,
+  enqueuedOf,
+  requestOf,
+  readRequestOf,
+  slotOf,
+}
 use Rattle.model.specs.Sdram.{stored, startSdram, cellsAfter, drivenAfter, takes, sdramAfter}
 use Rattle.model.specs.Flat.{startFlat, taken, flatAfter}
 use Rattle.model.specs.Condition.{firstService, refreshes}
@@ -60,7 +71,7 @@ pub record ClosedRun : Type 0 where
   pub beyond : readRequestOf machine 0x40000 .number ≡ 5
   pub full : readRequestOf (world (times 8 (read 0 ∷ [])) .machine) 0 .number ≡ 6
   -- a Must run is on
-  pub run : world (opening ++ busy) .machine .run ≡ true
+  pub must : world (opening ++ busy) .machine .control .must ≡ true
   -- all 85 requests are reported: the read of another block first, the write and the read behind it last
   pub all : length (world (opening ++ (busy ++ rest)) .reported) ≡ 85
   pub first : drop 84 (world (opening ++ (busy ++ rest)) .reported) ≡ 3 ∷ []
@@ -72,13 +83,13 @@ pub record ClosedRun : Type 0 where
   pub refreshed : refreshes (machine .config) (world (opening ++ (busy ++ rest))) ≡ 15
 
 pub closed-run : ClosedRun
-unfolding firstService times machine world opening busy rest settingOf reservedAll reservedMap offeredOf checkedOf configOf geometryOf addressNumberOf capacityOf cellOf holdsOf allClosed marksOf rowOf legalOf R2 R7 R12-all R13-all freshOf bankOf agedOf bankSentOf banksSentOf sentOf without emptyOf acceptOf removeOf getOf blockedOf readyOf oldestOf startOf tickOf refreshedOf levelOf start.refreshedOf carried tried pausedOf startSlotOf fromRule5 fromRule3 choiceOf quiet sendOf readOf writtenOf writeOf transferOf accessOf takenOf dataOf recoveryOf refreshOf actOf blankOf machineOf startedOf servedOf chosenOf continuedOf begunOf serviceOf stepOf configAccepted shapedOf distancesOf spannedOf countingOf stagedOf fitOf soundOf configuredBy configureOf recordNumberOf roomNumberOf requestNumberOf queuedRequest acceptedOf requestOf slotOf last openRow startLog fed stored startSdram cellsAfter drivenAfter takes sdramAfter startFlat taken flatAfter startWorld busOf slotIn afterSlot afterRequest after played
+unfolding firstService times machine world opening busy rest settingOf reservedAll reservedMap offeredOf checkedOf configOf geometryOf addressNumberOf capacityOf cellOf holdsOf allClosed marksOf rowOf R7 R12-open R13-open R14 requirements legalOf last openRow startLog fed freshOf openedOf rowIn rowAt agedOf agesAfter sentOf carriedOf without emptyOf acceptOf removeOf getOf blockedOf readyOf oldestOf soundQueue startOf tickOf refreshedOf soundCounters levelOf soundAction plan.quietly plan.outcomeOf plan.tries plan.rest plan.afterPause plan.afterInitRefresh plan.readPlan plan.writePlan plan.transferPlan plan.accessPlan plan.takenPlan plan.latencyPlan plan.cycleLeft plan.refreshPlan plan.planOf plan.queueAfter plan.countersAfter rulesOf choiceOf currentOf tickedOf turnOf blankOf machineOf stepOf fitOf soundOf configAccepted shapedOf distancesOf spannedOf configuredBy configureOf recordNumberOf roomNumberOf requestNumberOf queuedRequest enqueuedOf requestOf slotOf stored startSdram cellsAfter drivenAfter takes sdramAfter startFlat taken flatAfter startWorld busOf slotIn afterSlot afterRequest after played
 closed-run =
     record {
       odd = refl;
       beyond = refl;
       full = refl;
-      run = refl;
+      must = refl;
       all = refl;
       first = refl;
       last-two = refl;

@@ -1,29 +1,57 @@
 -- What holds in every world that calls can make, in three parts, each kept by every call: the device's past; order and memory; refresh.
 use Prim.Native.Nat.{ℕ, _+_, _-_, _%_, _≤_, _<_, max}
 use mathlib.Core.Path.{_≡_}
-use mathlib.Core.Bool.{true, false, cond}
+use mathlib.Core.Bool.{true, cond}
 use mathlib.Core.List.{List, List·Memᴰ}
-use mathlib.Core.Option.{some}
+use mathlib.Core.Option.{Option, none, some}
 use lib.Dec.{eqb}
 use lib.ListN.{getD}
 use Rattle.config.specs.declared.Config.{Config}
 use Rattle.config.specs.declared.Geometry.{Geometry}
+use Rattle.address.specs.declared.Row.{Row}
 use Rattle.address.specs.Map.{capacityOf, cellOf}
-use Rattle.device.specs.declared.Past.{Past}
-use Rattle.device.specs.declared.BankPast.{BankPast}
-use Rattle.device.specs.View.{allClosed}
-use Rattle.device.specs.Ages.{byAges, bankOf}
-use Rattle.device.proofs.Agree.{Agrees}
+use Rattle.device.specs.View.{
+  Distance,
+  refreshCycle,
+  modeRegister,
+  readToWrite,
+  anyPrecharge,
+  rowPrecharge,
+  rowCycle,
+  rowToRow,
+  rowToColumn,
+  rowActive,
+  writeRecovery,
+  slotsOf,
+  isSome,
+  allClosed,
+}
+use Rattle.ages.specs.declared.Past.{Past}
+use Rattle.ages.specs.Ages.{ageOf, rowAt}
+use Rattle.ages.proofs.Agree.{Agrees}
 use Rattle.queue.specs.declared.Kind.{Kind}
 use Rattle.queue.specs.declared.Queue.{Queue}
 use Rattle.queue.specs.declared.Request.{Request}
-use Rattle.queue.specs.Places.{Tidy, heldOf, blankOf, getOf}
-use Rattle.queue.specs.Order.{Each, Servable, Rising}
-use Rattle.queue.specs.Memory.{Consistent}
+use Rattle.queue.specs.Places.{heldOf, noRequest, getOf}
+use Rattle.queue.proofs.Tidy.{Tidy}
+use Rattle.queue.proofs.Order.{Each, Servable, Rising}
+use Rattle.queue.proofs.Consistent.{Consistent}
 use Rattle.refresh.specs.declared.Counters.{Counters}
-use Rattle.startup.specs.Start.{isDone}
-use Rattle.service.specs.declared.Action.{Action}
-use Rattle.service.specs.declared.Action.the-variants.{Idle, Access, Data, Turn, Close, Refresh, Recover}
+use Rattle.plan.specs.declared.Action.{Action}
+use Rattle.plan.specs.declared.Action.the-variants.{
+  PowerUp,
+  InitPrecharge,
+  InitRefresh,
+  InitMode,
+  InitSettle,
+  Idle,
+  Access,
+  CasLatency,
+  Turnaround,
+  PrechargeAll,
+  Refresh,
+  RefreshCycle,
+}
 use Rattle.model.specs.Sdram.{Sdram, Cells, drivenIn}
 use Rattle.model.specs.Flat.{Flat}
 use Rattle.model.specs.World.{World}
@@ -33,8 +61,6 @@ pub record Kept (c : Config) (w : World) : Type 0 where
   pub configured : w .machine .configured ≡ true
   pub config : w .machine .config ≡ c
   pub agrees : Agrees (w .machine .past) (w .sdram .log)
-  -- no action before the first service slot
-  pub idle : isDone (w .machine .stage) ≡ false → w .machine .action ≡ Idle
 
 -- Part B: order and memory.
 
@@ -54,18 +80,23 @@ seen g m a = m (cellOf g a)
 -- the action under way: its request is queued and unblocked; a read's halfword will be on the bus in the slot in which it is taken
 pub record Coming (q : Queue) (d : Sdram) (f : Flat) (i left : ℕ) : Type 0 where
   pub servable : Servable (heldOf q) i
-  pub kind : getD (heldOf q) i blankOf .kind ≡ Kind.Read
+  pub kind : getD (heldOf q) i noRequest .kind ≡ Kind.Read
   pub least : 1 ≤ left
-  pub driven : drivenIn (d .log .now + left - 1) (d .driven) ≡ some (f .given (getD (heldOf q) i blankOf .number))
+  pub driven : drivenIn (d .log .now + left - 1) (d .driven) ≡ some (f .given (getD (heldOf q) i noRequest .number))
 
 abbrev pub Doing : Queue → Sdram → Flat → Action → Type 0
+Doing q d f (PowerUp n) = Unit {0}
+Doing q d f InitPrecharge = Unit {0}
+Doing q d f (InitRefresh n) = Unit {0}
+Doing q d f InitMode = Unit {0}
+Doing q d f InitSettle = Unit {0}
 Doing q d f Idle = Unit {0}
 Doing q d f (Access i) = Servable (heldOf q) i
-Doing q d f (Data i left) = Coming q d f i left
-Doing q d f Turn = Unit {0}
-Doing q d f Close = Unit {0}
+Doing q d f (CasLatency i left) = Coming q d f i left
+Doing q d f Turnaround = Unit {0}
+Doing q d f PrechargeAll = Unit {0}
 Doing q d f Refresh = Unit {0}
-Doing q d f (Recover left) = Unit {0}
+Doing q d f (RefreshCycle left) = Unit {0}
 
 -- over the parts of a world that it speaks of
 pub record Ordered (g : Geometry) (q : Queue) (a : Action) (accepted : ℕ) (d : Sdram) (f : Flat) (reported : List ℕ) : Type 0 where
@@ -82,93 +113,115 @@ pub record Ordered (g : Geometry) (q : Queue) (a : Action) (accepted : ℕ) (d :
 -- Part C: refresh. `left` is an upper bound on the slots that the action under way still takes.
 
 -- what is left of a distance
-unfoldable pub short : ℕ → ℕ → ℕ
-short distance age = distance - age
+unfoldable pub short : Config → Past → Distance → ℕ
+short c p d = slotsOf c d - ageOf p d
 
 -- what keeps a PRE of the bank back, and a DEAC
 unfoldable pub bankHeld : Config → Past → ℕ → ℕ
-bankHeld c p b = max (short (c .ras) (bankOf p b .act)) (short (c .wr) (bankOf p b .wrt))
+bankHeld c p b = max (short c p (rowActive b)) (short c p (writeRecovery b))
 
 unfoldable pub openHeld : Config → Past → ℕ → ℕ
-openHeld c p b = cond (bankOf p b .opened) (bankHeld c p b) 0
+openHeld c p b = cond (isSome (rowAt p b)) (bankHeld c p b) 0
 
 unfoldable pub allHeld : Config → Past → ℕ
 allHeld c p = max (max (openHeld c p 0) (openHeld c p 1)) (max (openHeld c p 2) (openHeld c p 3))
 
 -- what R7 keeps an ACT of bank b back
 unfoldable pub otherHeld : Config → Past → ℕ → ℕ → ℕ
-otherHeld c p b other = cond (eqb other b) 0 (short (c .rrd) (bankOf p other .act))
+otherHeld c p b other = cond (eqb other b) 0 (short c p (rowToRow other))
 
 unfoldable pub othersHeld : Config → Past → ℕ → ℕ
 othersHeld c p b = max (max (otherHeld c p b 0) (otherHeld c p b 1)) (max (otherHeld c p b 2) (otherHeld c p b 3))
 
 -- READ or WRT, with its row open: the wait, then CL + 2 slots at most
 unfoldable pub transferLeft : Config → Past → Kind → ℕ → ℕ
-transferLeft c p Kind.Read b = short (c .rcd) (bankOf p b .act) + c .latency + 2
-transferLeft c p Kind.Write b = short (c .rcd) (bankOf p b .act) + short (c .latency + 2) (p .read) + 1
+transferLeft c p Kind.Read b = short c p (rowToColumn b) + c .latency + 2
+transferLeft c p Kind.Write b = short c p (rowToColumn b) + short c p readToWrite + 1
 
 -- ACT first: then tRCD and the transfer
 unfoldable pub activateLeft : Config → Past → ℕ → ℕ
-activateLeft c p b = short (c .rp) (bankOf p b .pre) + short (c .rc) (bankOf p b .act) + othersHeld c p b + c .rcd + c .latency + 2
+activateLeft c p b = short c p (rowPrecharge b) + short c p (rowCycle b) + othersHeld c p b + c .rcd + c .latency + 2
 
 -- PRE first: then tRP, and so on
-unfoldable pub closeLeft : Config → Past → ℕ → ℕ
-closeLeft c p b = bankHeld c p b + c .rp + short (c .rc) (bankOf p b .act) + othersHeld c p b + c .rcd + c .latency + 2
+unfoldable pub prechargeLeft : Config → Past → ℕ → ℕ
+prechargeLeft c p b = bankHeld c p b + c .rp + short c p (rowCycle b) + othersHeld c p b + c .rcd + c .latency + 2
+
+-- by the bank's open row
+abbrev pub rowLeft : Config → Past → Option Row → Request → ℕ
+rowLeft c p none r = activateLeft c p (r .cell .bank .0)
+rowLeft c p (some x) r = cond (eqb (x .0) (r .cell .row .0)) (transferLeft c p (r .kind) (r .cell .bank .0)) (prechargeLeft c p (r .cell .bank .0))
 
 unfoldable pub accessLeft : Config → Past → Request → ℕ
-accessLeft c p r =
-    let b : BankPast = bankOf p (r .cell .bank .0) in
-    cond (b .opened)
-    (cond (eqb (b .row .0) (r .cell .row .0)) (transferLeft c p (r .kind) (r .cell .bank .0)) (closeLeft c p (r .cell .bank .0)))
-    (activateLeft c p (r .cell .bank .0))
+accessLeft c p r = rowLeft c p (rowAt p (r .cell .bank .0)) r
 
+-- the initialisation has none: its slots are counted (Start)
 abbrev pub leftOf : Config → Past → Queue → Action → ℕ
+leftOf c p q (PowerUp n) = 0
+leftOf c p q InitPrecharge = 0
+leftOf c p q (InitRefresh n) = 0
+leftOf c p q InitMode = 0
+leftOf c p q InitSettle = 0
 leftOf c p q Idle = 0
 leftOf c p q (Access i) = accessLeft c p (getOf q i)
-leftOf c p q (Data i left) = left + 1
-leftOf c p q Turn = 1
-leftOf c p q Close = allHeld c p + c .rp + c .rfc
-leftOf c p q Refresh = short (c .rp) (p .close) + c .rfc
-leftOf c p q (Recover left) = left
+leftOf c p q (CasLatency i left) = left + 1
+leftOf c p q Turnaround = 1
+leftOf c p q PrechargeAll = allHeld c p + c .rp + c .rfc
+leftOf c p q Refresh = short c p anyPrecharge + c .rfc
+leftOf c p q (RefreshCycle left) = left
 
 -- what a refresh owed now waits for besides: nothing if the action is that refresh, otherwise a whole refresh after the action
 abbrev pub dueOf : Config → Action → ℕ
+dueOf c (PowerUp n) = c .refresh
+dueOf c InitPrecharge = c .refresh
+dueOf c (InitRefresh n) = c .refresh
+dueOf c InitMode = c .refresh
+dueOf c InitSettle = c .refresh
 dueOf c Idle = c .refresh
 dueOf c (Access i) = c .refresh
-dueOf c (Data i left) = c .refresh
-dueOf c Turn = c .refresh
-dueOf c Close = 0
+dueOf c (CasLatency i left) = c .refresh
+dueOf c Turnaround = c .refresh
+dueOf c PrechargeAll = 0
 dueOf c Refresh = 0
-dueOf c (Recover left) = c .refresh
+dueOf c (RefreshCycle left) = c .refresh
 
 -- the slots until a refresh owed now could have its REFR behind it: its own, or those of the action under way and a refresh after it
 abbrev pub needOf : Config → Past → Queue → Action → ℕ
 needOf c p q a = leftOf c p q a + dueOf c a
 
--- R2 is kept, but for what is left of a refresh; slots that are counted down are left
+-- R2 is kept, but for what is left of a refresh; slots that are counted down are left; no action of the initialisation is under way
 abbrev pub Settled : Config → Past → Action → Type 0
-Settled c p Idle = c .rfc ≤ p .refr
-Settled c p (Access i) = c .rfc ≤ p .refr
-Settled c p (Data i left) = (c .rfc ≤ p .refr) × (1 ≤ left)
-Settled c p Turn = c .rfc ≤ p .refr
-Settled c p Close = c .rfc ≤ p .refr
-Settled c p Refresh = (c .rfc ≤ p .refr) × (allClosed (byAges p) ≡ true)
-Settled c p (Recover left) = (c .rfc ≤ p .refr + left) × (1 ≤ left)
+Settled c p (PowerUp n) = ⊥
+Settled c p InitPrecharge = ⊥
+Settled c p (InitRefresh n) = ⊥
+Settled c p InitMode = ⊥
+Settled c p InitSettle = ⊥
+Settled c p Idle = c .rfc ≤ ageOf p refreshCycle
+Settled c p (Access i) = c .rfc ≤ ageOf p refreshCycle
+Settled c p (CasLatency i left) = (c .rfc ≤ ageOf p refreshCycle) × (1 ≤ left)
+Settled c p Turnaround = c .rfc ≤ ageOf p refreshCycle
+Settled c p PrechargeAll = c .rfc ≤ ageOf p refreshCycle
+Settled c p Refresh = (c .rfc ≤ ageOf p refreshCycle) × (allClosed (rowAt p) ≡ true)
+Settled c p (RefreshCycle left) = (c .rfc ≤ ageOf p refreshCycle + left) × (1 ≤ left)
 
 -- a refresh whose REFR is still to come is owed
 abbrev pub Owing : Action → Counters → Type 0
+Owing (PowerUp k) n = Unit {0}
+Owing InitPrecharge n = Unit {0}
+Owing (InitRefresh k) n = Unit {0}
+Owing InitMode n = Unit {0}
+Owing InitSettle n = Unit {0}
 Owing Idle n = Unit {0}
 Owing (Access i) n = Unit {0}
-Owing (Data i left) n = Unit {0}
-Owing Turn n = Unit {0}
-Owing Close n = 1 ≤ n .backlog
+Owing (CasLatency i left) n = Unit {0}
+Owing Turnaround n = Unit {0}
+Owing PrechargeAll n = 1 ≤ n .backlog
 Owing Refresh n = 1 ≤ n .backlog
-Owing (Recover left) n = Unit {0}
+Owing (RefreshCycle left) n = Unit {0}
 
 -- in service
 pub record Timely (c : Config) (p : Past) (q : Queue) (a : Action) (n : Counters) : Type 0 where
-  pub moded : p .moded ≡ true
-  pub mode : 2 ≤ p .mrs
+  pub programmed : p .programmed ≡ true
+  pub mode : 2 ≤ ageOf p modeRegister
   pub settled : Settled c p a
   pub owing : Owing a n
   pub bounded : needOf c p q a < c .rr

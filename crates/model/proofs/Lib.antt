@@ -1,16 +1,12 @@
--- The proof of the third condition.
-pub mod Calls
-pub mod ClosedRun
+-- The proof of the third condition: the invariant and its three parts, what every call does to each, and the theorem.
 pub mod Invariant
-pub mod OrderAct
-pub mod OrderCells
-pub mod OrderQueue
-pub mod OrderSend
-pub mod Requests
-pub mod Standing
-pub mod Start
+pub mod Calls
+pub mod Plans
+pub mod Order
 pub mod Timing
-pub mod TimingActs
-pub mod TimingDistances
-pub mod Slots
+pub mod Start
+pub mod Refreshes
+pub mod Standing
+pub mod Requests
 pub mod Third
+pub mod ClosedRun

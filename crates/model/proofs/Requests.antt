@@ -14,17 +14,17 @@ use Rattle.queue.specs.declared.Kind.{Kind}
 use Rattle.queue.specs.declared.Queue.{Queue}
 use Rattle.queue.specs.declared.Request.{Request}
 use Rattle.queue.specs.Places.{acceptOf}
-use Rattle.startup.specs.Start.{isDone}
-use Rattle.sequencer.specs.Calls.{lastNumber, roomNumberOf, requestNumberOf, queuedRequest, acceptedOf, requestOf}
+use Rattle.plan.specs.Actions.{inService}
+use Rattle.sequencer.specs.Calls.{lastNumber, roomNumberOf, requestNumberOf, queuedRequest, enqueuedOf, requestOf}
 use Rattle.sequencer.proofs.Laws.{RequestFacts, request-facts}
 use Rattle.model.specs.Flat.{taken, flatAfter}
 use Rattle.model.specs.World.{World, afterRequest}
 use Rattle.model.specs.Condition.{askedNumber, Answered}
 use Rattle.model.proofs.Calls.{request-cases}
-use Rattle.model.proofs.Standing.{Timed, Whole, sound}
+use Rattle.model.proofs.Standing.{Phase, Whole, sound}
 use Rattle.model.proofs.Invariant.{Ordered}
-use Rattle.model.proofs.OrderQueue.{ordered-request}
-use Rattle.model.proofs.Timing.{timely-arrive, queued-doing}
+use Rattle.model.proofs.Order.Queue.{ordered-request}
+use Rattle.model.proofs.Timing.Service.{timely-arrive, queued-doing}
 
 -- the address's number and the room's, as one sees them from outside
 outside : (g : Geometry) (a room : ℕ)
@@ -47,7 +47,7 @@ module _ {c : Config} {w : World} (a : Accepted c) (v : Whole c w) where
       ∙ rw (queued, v .ordered .counted))
 
   pub answered : (kind : Kind) (address halfword : ℕ) → Answered c w address (requestOf (w .machine) kind address halfword)
-  unfolding acceptedOf queuedRequest
+  unfolding enqueuedOf queuedRequest
   answered kind address halfword =
       request-cases (w .machine) kind address halfword (Answered c w address)
       (λ e. record { number = sym e ∙ asked address; accepted = λ z. ap (λ n. n + 1) (v .ordered .counted); refused = λ no′. absurd (no′ refl) })
@@ -66,15 +66,15 @@ module _ (w : World) (v : Whole (w .machine .config) w) (kind : Kind) (address h
   r = queuedRequest (w .machine) kind address halfword
 
   abbrev next : World
-  next = afterRequest w kind address halfword (acceptedOf (w .machine) r)
+  next = afterRequest w kind address halfword (enqueuedOf (w .machine) r)
 
-  request-ordered : Ordered (c .geometry) (acceptOf (w .machine .queue) r) (w .machine .action) (w .machine .accepted + 1) (w .sdram)
+  request-ordered : Ordered (c .geometry) (acceptOf (w .machine .queue) r) (w .machine .control .action) (w .machine .accepted + 1) (w .sdram)
       (taken (w .flat) kind address halfword) (w .reported)
   unfolding queuedRequest
   request-ordered = ordered-request (v .ordered) kind address halfword (room .room) (room .place)
 
-  request-timed : (b : Bool) → Timed c w b → Timed c next b
-  unfolding afterRequest acceptedOf
+  request-timed : (b : Bool) → Phase c w b → Phase c next b
+  unfolding afterRequest enqueuedOf
   request-timed false t = record { starting = t .starting; counters = t .counters; none = t .none }
   request-timed true t =
       record {
@@ -82,17 +82,17 @@ module _ (w : World) (v : Whole (w .machine .config) w) (kind : Kind) (address h
         owed = t .owed;
         timely =
             timely-arrive r (v .ordered .tidy) (room .room)
-            (queued-doing (v .ordered .tidy) (w .sdram) (w .flat) (w .machine .action) (v .ordered .doing)) (t .timely);
+            (queued-doing (v .ordered .tidy) (w .sdram) (w .flat) (w .machine .control .action) (v .ordered .doing)) (t .timely);
       }
 
   request-accepted : Whole c next
-  unfolding afterRequest acceptedOf queuedRequest flatAfter
+  unfolding afterRequest enqueuedOf queuedRequest flatAfter
   request-accepted =
       record {
-        kept = record { configured = refl; config = refl; agrees = v .kept .agrees; idle = v .kept .idle };
+        kept = record { configured = v .kept .configured; config = refl; agrees = v .kept .agrees };
         ordered = request-ordered;
         waiting = let e = accept-count (w .machine .queue) r (room .room) in omega (arith, e, v .waiting);
-        timed = request-timed (isDone (w .machine .stage)) (v .timed);
+        timed = request-timed (inService (w .machine .control .action)) (v .timed);
       }
 
 -- a refused one changes nothing

@@ -2,141 +2,173 @@
 use Prim.Native.Nat.{ℕ, suc, _+_, _-_, _*_, _≤_, _<_, min}
 use native.Mathlib.Omega.{arith}
 use mathlib.Core.Path.{_≡_, refl, sym, ap, _∙_}
+use mathlib.Core.List.{[], _∷_, _++_}
 use mathlib.Core.Logic.{_⊎_, inl, inr, ⊎-elim}
-use mathlib.Core.Bool.{true, false, _&&_, and-eq-true-iff, true≢false}
-use lib.Dec.{leb, eqb}
+use mathlib.Core.Bool.{true, false, _&&_, true≢false, false≢true}
+use lib.Dec.{leb, lit<}
 use borrow.Author.Tests.{leb-true, leb-false, le-leb, eq-eqb}
 use Rattle.config.specs.declared.Config.{Config}
 use Rattle.config.specs.Accepted.{Accepted}
+use Rattle.command.specs.declared.Command.{Command}
 use Rattle.command.specs.declared.Command.the-variants.{Nop, Deac, Refr, Mrs}
-use Rattle.device.specs.declared.Past.{Past}
-use Rattle.device.specs.View.{allClosed, marksOf, rowOf}
-use Rattle.device.specs.Rules.{legalOf, R2, R12-all, R13-all}
-use Rattle.device.specs.Ages.{freshOf, bankOf, byAges, agedOf, bankSentOf, banksSentOf, sentOf}
-use Rattle.device.proofs.Slot.{aged-min}
-use Rattle.device.proofs.Agree.{by-test}
-use Rattle.startup.specs.declared.Stage.{Stage}
-use Rattle.startup.specs.declared.Stage.the-variants.{Pause, Close, Refresh, Mode, Settle, Done}
-use Rattle.startup.specs.Start.{isDone, firstStage, carried, tried, pausedOf, refreshedOf, startSlotOf}
+use Rattle.device.specs.View.{Distance, refreshCycle, modeRegister, anyPrecharge, starts, allClosed, marksOf, rowOf}
+use Rattle.device.specs.Rules.{allHold, R12-open, R13-open, R14, R15, requirements, legalOf}
+use Rattle.device.proofs.Tests.{by-test, if-both, both}
+use Rattle.device.proofs.Alike.{Known, hold-append}
+use Rattle.ages.specs.declared.Past.{Past}
+use Rattle.ages.specs.Ages.{cap, freshOf, ageOf, openedOf, rowIn, rowAt, byAges, agedOf, agesAfter, sentOf}
+use Rattle.ages.proofs.Slot.{sent-age, sent-row}
+use Rattle.queue.specs.declared.Request.{Request}
+use Rattle.plan.specs.declared.Action.{Action}
+use Rattle.plan.specs.declared.Action.the-variants.{
+  PowerUp,
+  InitPrecharge,
+  InitRefresh,
+  InitMode,
+  InitSettle,
+  Idle,
+  Access,
+  CasLatency,
+  Turnaround,
+  PrechargeAll,
+  Refresh,
+  RefreshCycle,
+}
+use Rattle.plan.specs.Actions.{isIdle, inService, firstAction}
+use Rattle.plan.specs.Plan.{quietly, tries, rest, afterPause, afterInitRefresh, modeWord, planOf}
+use Rattle.service.specs.declared.Served.{Served}
+use Rattle.service.specs.Serve.{performedOf, servedOf}
 use Rattle.model.specs.Condition.{firstService}
+use Rattle.model.proofs.Plans.{performed-both, rest-only}
+use Rattle.model.proofs.Timing.Distances.{R14-closed}
 
 -- the slot of the MRS
-abbrev pub modeSlot : Config → ℕ
+abbrev modeSlot : Config → ℕ
 modeSlot c = 8 * c .rr + 1 + c .rp + 8 * c .rfc
 
 -- banks closed; the DEAC and the REFRs behind
-pub record Quiet (p : Past) : Type 0 where
-  pub closed : allClosed (byAges p) ≡ true
-  pub unset : 2 ≤ p .mrs
+pub record Closed (p : Past) : Type 0 where
+  pub closed : allClosed (rowAt p) ≡ true
+  pub unset : 2 ≤ ageOf p modeRegister
 
 -- n REFRs are left, and the next is sent as soon as tRP after the DEAC and tRFC after the one before are kept
-pub record Refreshes (c : Config) (p : Past) (now n : ℕ) : Type 0 where
-  pub quiet : Quiet p
+pub record Refreshing (c : Config) (p : Past) (now n : ℕ) : Type 0 where
+  pub closed : Closed p
   pub least : 1 ≤ n
   pub most : n ≤ 8
-  pub one : (c .rfc ≤ p .refr) ⊎ (c .rp ≤ p .close)
-  pub next : now + ((c .rp - p .close) + (c .rfc - p .refr)) + n * c .rfc ≡ modeSlot c
+  pub one : (c .rfc ≤ ageOf p refreshCycle) ⊎ (c .rp ≤ ageOf p anyPrecharge)
+  pub next : now + ((c .rp - ageOf p anyPrecharge) + (c .rfc - ageOf p refreshCycle)) + n * c .rfc ≡ modeSlot c
 
-pub record Modes (c : Config) (p : Past) (now : ℕ) : Type 0 where
-  pub quiet : Quiet p
-  pub kept : c .rp ≤ p .close
-  pub next : now + (c .rfc - p .refr) ≡ modeSlot c
+pub record ModeDue (c : Config) (p : Past) (now : ℕ) : Type 0 where
+  pub closed : Closed p
+  pub kept : c .rp ≤ ageOf p anyPrecharge
+  pub next : now + (c .rfc - ageOf p refreshCycle) ≡ modeSlot c
 
 -- the mode is set, so many slots ago
 pub record Set (c : Config) (p : Past) (ago now : ℕ) : Type 0 where
-  pub moded : p .moded ≡ true
-  pub mode : ago ≤ p .mrs
-  pub settled : c .rfc ≤ p .refr
+  pub programmed : p .programmed ≡ true
+  pub mode : ago ≤ ageOf p modeRegister
+  pub settled : c .rfc ≤ ageOf p refreshCycle
   pub next : now ≡ modeSlot c + ago
 
-abbrev pub Starting : Config → Past → ℕ → Stage → Type 0
-Starting c p now (Pause n) = (now + n ≡ 8 * c .rr + 1) × (1 ≤ n) × (n ≤ 8 * c .rr) × (p ≡ freshOf)
-Starting c p now Close = (now ≡ 8 * c .rr + 1) × (p ≡ freshOf)
-Starting c p now (Refresh n) = Refreshes c p now n
-Starting c p now Mode = Modes c p now
-Starting c p now Settle = Set c p 1 now
-Starting c p now Done = Set c p 2 now
+abbrev pub Starting : Config → Past → ℕ → Action → Type 0
+Starting c p now (PowerUp n) = (now + n ≡ 8 * c .rr + 1) × (1 ≤ n) × (n ≤ 8 * c .rr) × (p ≡ freshOf)
+Starting c p now InitPrecharge = (now ≡ 8 * c .rr + 1) × (p ≡ freshOf)
+Starting c p now (InitRefresh n) = Refreshing c p now n
+Starting c p now InitMode = ModeDue c p now
+Starting c p now InitSettle = Set c p 1 now
+Starting c p now Idle = Set c p 2 now
+Starting c p now (Access i) = ⊥
+Starting c p now (CasLatency i left) = ⊥
+Starting c p now Turnaround = ⊥
+Starting c p now PrechargeAll = ⊥
+Starting c p now Refresh = ⊥
+Starting c p now (RefreshCycle left) = ⊥
 
 -- Slots.
 
 fresh-nop : sentOf freshOf Nop ≡ freshOf
-unfolding sentOf banksSentOf bankSentOf freshOf agedOf marksOf rowOf
+unfolding sentOf agesAfter freshOf agedOf marksOf rowOf
 fresh-nop = refl
 
-fresh-deac : (c : Config) → c .rfc ≤ 32 → legalOf c (byAges freshOf) Deac ≡ true
-unfolding legalOf R2 R12-all R13-all freshOf bankOf
-fresh-deac c h = simp (le-leb (c .rfc) 32 h)
+fresh-deac : (c : Config) → c .rfc ≤ cap → legalOf c (byAges c freshOf) Deac ≡ true
+unfolding legalOf requirements R12-open R13-open freshOf rowAt rowIn openedOf
+fresh-deac c h = simp (le-leb (c .rfc) cap h)
 
-closed-deac : allClosed (byAges (sentOf freshOf Deac)) ≡ true
-unfolding allClosed bankOf sentOf banksSentOf bankSentOf freshOf agedOf marksOf rowOf
+closed-deac : allClosed (rowAt (sentOf freshOf Deac)) ≡ true
+unfolding allClosed rowAt rowIn openedOf sentOf freshOf marksOf rowOf
 closed-deac = refl
+
+-- an age after a command that does not start it
+older : (p : Past) (k : Command) (d : Distance) → Known d → starts d k ≡ false → ageOf (sentOf p k) d ≡ min cap (suc (ageOf p d))
+older p k d h f = rw (sent-age p k d h, f)
 
 -- REFR, MRS and NOP open no bank
 module _ (p : Past) where
-  closed-nop : allClosed (byAges (sentOf p Nop)) ≡ allClosed (byAges p)
-  unfolding allClosed bankOf sentOf banksSentOf bankSentOf marksOf
-  closed-nop = refl
+  closed-nop : allClosed (rowAt (sentOf p Nop)) ≡ allClosed (rowAt p)
+  unfolding allClosed marksOf
+  closed-nop = rw (sent-row p Nop 0 (lit< tt), sent-row p Nop 1 (lit< tt), sent-row p Nop 2 (lit< tt), sent-row p Nop 3 (lit< tt))
 
-  closed-refr : allClosed (byAges (sentOf p Refr)) ≡ allClosed (byAges p)
-  unfolding allClosed bankOf sentOf banksSentOf bankSentOf marksOf
-  closed-refr = refl
+  closed-refr : allClosed (rowAt (sentOf p Refr)) ≡ allClosed (rowAt p)
+  unfolding allClosed marksOf
+  closed-refr = rw (sent-row p Refr 0 (lit< tt), sent-row p Refr 1 (lit< tt), sent-row p Refr 2 (lit< tt), sent-row p Refr 3 (lit< tt))
 
   -- the ages after a NOP, a REFR and an MRS
-  nop-ages : (sentOf p Nop .refr ≡ min 32 (suc (p .refr))) × (sentOf p Nop .close ≡ min 32 (suc (p .close))) × (sentOf p Nop .mrs ≡ min 32 (suc (p .mrs)))
-  unfolding sentOf marksOf
-  nop-ages = (aged-min false (p .refr), aged-min false (p .close), aged-min false (p .mrs))
+  nop-ages : (ageOf (sentOf p Nop) refreshCycle ≡ min cap (suc (ageOf p refreshCycle)))
+      × (ageOf (sentOf p Nop) anyPrecharge ≡ min cap (suc (ageOf p anyPrecharge)))
+      × (ageOf (sentOf p Nop) modeRegister ≡ min cap (suc (ageOf p modeRegister)))
+  unfolding marksOf
+  nop-ages = (older p Nop refreshCycle tt refl, older p Nop anyPrecharge tt refl, older p Nop modeRegister tt refl)
 
-  nop-moded : sentOf p Nop .moded ≡ p .moded
+  nop-programmed : sentOf p Nop .programmed ≡ p .programmed
   unfolding sentOf marksOf
-  nop-moded = refl
+  nop-programmed = refl
 
-  refr-ages : (sentOf p Refr .refr ≡ 1) × (sentOf p Refr .close ≡ min 32 (suc (p .close))) × (sentOf p Refr .mrs ≡ min 32 (suc (p .mrs)))
-  unfolding sentOf marksOf
-  refr-ages = (aged-min true (p .refr), aged-min false (p .close), aged-min false (p .mrs))
+  refr-ages : (ageOf (sentOf p Refr) refreshCycle ≡ 1)
+      × (ageOf (sentOf p Refr) anyPrecharge ≡ min cap (suc (ageOf p anyPrecharge)))
+      × (ageOf (sentOf p Refr) modeRegister ≡ min cap (suc (ageOf p modeRegister)))
+  unfolding marksOf
+  refr-ages = (sent-age p Refr refreshCycle tt, older p Refr anyPrecharge tt refl, older p Refr modeRegister tt refl)
 
-  mrs-ages : (w : ℕ) → (sentOf p (Mrs w) .refr ≡ min 32 (suc (p .refr))) × (sentOf p (Mrs w) .mrs ≡ 1) × (sentOf p (Mrs w) .moded ≡ true)
+  mrs-ages : (w : ℕ) → (ageOf (sentOf p (Mrs w)) refreshCycle ≡ min cap (suc (ageOf p refreshCycle)))
+      × (ageOf (sentOf p (Mrs w)) modeRegister ≡ 1)
+      × (sentOf p (Mrs w) .programmed ≡ true)
   unfolding sentOf marksOf
-  mrs-ages w = (aged-min false (p .refr), aged-min true (p .mrs), refl)
+  mrs-ages w = (older p (Mrs w) refreshCycle tt refl, sent-age p (Mrs w) modeRegister tt, refl)
 
 -- REFR and MRS are legal exactly when both distances are kept
-module _ (c : Config) (p : Past) (q : Quiet p) where
-  refr-ready : c .rfc ≤ p .refr → c .rp ≤ p .close → legalOf c (byAges p) Refr ≡ true
-  unfolding legalOf R2
-  refr-ready a b = simp (le-leb _ _ a, le-leb _ _ (q .unset), q .closed, le-leb _ _ b)
+module _ (c : Config) (p : Past) (q : Closed p) where
+  -- what REFR and MRS require, but for R2 and the word
+  rest-ready : c .rp ≤ ageOf p anyPrecharge → allHold (R14 (byAges c p) ++ R15 (byAges c p) ∷ []) ≡ true
+  rest-ready b = hold-append (R14 (byAges c p)) (R15 (byAges c p) ∷ []) ∙ simp (R14-closed c p, q .closed, le-leb (c .rp) (ageOf p anyPrecharge) b)
 
-  refr-kept : legalOf c (byAges p) Refr ≡ true → (c .rfc ≤ p .refr) × (c .rp ≤ p .close)
-  unfolding legalOf R2
+  rest-kept : allHold (R14 (byAges c p) ++ R15 (byAges c p) ∷ []) ≡ true → c .rp ≤ ageOf p anyPrecharge
+  rest-kept h =
+      let x = both (allHold (R14 (byAges c p))) (leb (c .rp) (ageOf p anyPrecharge) && true) (sym (hold-append (R14 (byAges c p)) (R15 (byAges c p) ∷ [])) ∙ h) in
+      leb-true _ _ (both (leb (c .rp) (ageOf p anyPrecharge)) true (x .1) .0)
+
+  refr-ready : c .rfc ≤ ageOf p refreshCycle → c .rp ≤ ageOf p anyPrecharge → legalOf c (byAges c p) Refr ≡ true
+  unfolding legalOf requirements
+  refr-ready a b = simp (le-leb (c .rfc) (ageOf p refreshCycle) a, le-leb 2 (ageOf p modeRegister) (q .unset), rest-ready b)
+
+  refr-kept : legalOf c (byAges c p) Refr ≡ true → (c .rfc ≤ ageOf p refreshCycle) × (c .rp ≤ ageOf p anyPrecharge)
+  unfolding legalOf requirements
   refr-kept h =
-      let x = leb (c .rfc) (p .refr) in
-      let y = leb 2 (p .mrs) in
-      let z = allClosed (byAges p) in
-      let u = leb (c .rp) (p .close) in
-      let one = and-eq-true-iff (x && y && z) u .0 h in
-      let two = and-eq-true-iff (x && y) z .0 (one .0) in
-      let three = and-eq-true-iff x y .0 (two .0) in
-      (leb-true _ _ (three .0), leb-true _ _ (one .1))
+      let others = allHold (R14 (byAges c p) ++ R15 (byAges c p) ∷ []) in
+      let x = both (leb (c .rfc) (ageOf p refreshCycle)) (leb 2 (ageOf p modeRegister) && others) h in
+      let y = both (leb 2 (ageOf p modeRegister)) others (x .1) in
+      (leb-true _ _ (x .0), rest-kept (y .1))
 
-  mrs-ready : c .rfc ≤ p .refr → c .rp ≤ p .close → legalOf c (byAges p) (Mrs (16 * c .latency)) ≡ true
-  unfolding legalOf R2
-  mrs-ready a b = simp (eq-eqb (16 * c .latency) (16 * c .latency) refl, le-leb _ _ a, le-leb _ _ (q .unset), q .closed, le-leb _ _ b)
+  -- an MRS's rules are R1 and a REFR's
+  mrs-refr : legalOf c (byAges c p) (Mrs (modeWord c)) ≡ legalOf c (byAges c p) Refr
+  unfolding legalOf requirements
+  mrs-refr = rw (eq-eqb (modeWord c) (modeWord c) refl)
 
-  mrs-kept : legalOf c (byAges p) (Mrs (16 * c .latency)) ≡ true → c .rfc ≤ p .refr
-  unfolding legalOf R2
-  mrs-kept h =
-      let o = eqb (16 * c .latency) (16 * c .latency) in
-      let r2 = R2 c (byAges p) in
-      let z = allClosed (byAges p) in
-      let u = leb (c .rp) (p .close) in
-      let one = and-eq-true-iff (o && r2 && z) u .0 h in
-      let two = and-eq-true-iff (o && r2) z .0 (one .0) in
-      let three = and-eq-true-iff o r2 .0 (two .0) in
-      leb-true _ _ (and-eq-true-iff (leb (c .rfc) (p .refr)) (leb 2 (p .mrs)) .0 (three .1) .0)
+quiet-nop : (p : Past) → Closed p → Closed (sentOf p Nop)
+quiet-nop p q = let e = nop-ages p .2 in record { closed = closed-nop p ∙ q .closed; unset = omega (arith, q .unset) }
 
-quiet-nop : (p : Past) → Quiet p → Quiet (sentOf p Nop)
-quiet-nop p q = record { closed = closed-nop p ∙ q .closed; unset = omega (arith, nop-ages p .2, q .unset) }
-
-quiet-refr : (p : Past) → Quiet p → Quiet (sentOf p Refr)
-quiet-refr p q = record { closed = closed-refr p ∙ q .closed; unset = omega (arith, refr-ages p .2, q .unset) }
+quiet-refr : (p : Past) → Closed p → Closed (sentOf p Refr)
+quiet-refr p q = let e = refr-ages p .2 in record { closed = closed-refr p ∙ q .closed; unset = omega (arith, q .unset) }
 
 -- n REFRs of tRFC each
 one-less : (n f : ℕ) → 1 ≤ n → n * f ≡ (n - 1) * f + f
@@ -144,137 +176,213 @@ one-less n f h = let e : n ≡ (n - 1) + 1 = omega arith in ap (λ x. x * f) e �
 
 -- The stages, one slot on.
 module _ (c : Config) (a : Accepted c) where
-  paused : (now n : ℕ) → now + n ≡ 8 * c .rr + 1 → 1 ≤ n → n ≤ 8 * c .rr → Starting c freshOf (suc now) (pausedOf n)
-  unfolding pausedOf
-  paused now n e least most = by-test (leb n 1) (λ h. rw h (let m = leb-true n 1 h in (omega arith, refl))) (λ h. rw h (let m = leb-false n 1 h in (omega arith, omega arith, omega arith, refl)))
+  -- what a slot leaves
+  abbrev Next : ℕ → Served → Type 0
+  Next now s = Starting c (s .past) (suc now) (s .outcome .action)
 
-  closing : (now : ℕ) → now ≡ 8 * c .rr + 1 → Refreshes c (sentOf freshOf Deac) (suc now) 8
-  unfolding sentOf banksSentOf bankSentOf freshOf agedOf marksOf rowOf
-  closing now e =
+  pausing : (now n : ℕ) → now + n ≡ 8 * c .rr + 1 → 1 ≤ n → n ≤ 8 * c .rr → Starting c freshOf (suc now) (afterPause n)
+  unfolding afterPause
+  pausing now n e least most =
+      if-both (Starting c freshOf (suc now)) (leb n 1)
+      (λ h. let m = leb-true n 1 h in (omega arith, refl))
+      (λ h. let m = leb-false n 1 h in (omega arith, omega arith, omega arith, refl))
+
+  precharging : (now : ℕ) → now ≡ 8 * c .rr + 1 → Refreshing c (sentOf freshOf Deac) (suc now) 8
+  unfolding sentOf agesAfter freshOf agedOf marksOf rowOf
+  precharging now e =
       record {
-        quiet = record { closed = closed-deac; unset = omega arith };
+        closed = record { closed = closed-deac; unset = omega arith };
         least = omega arith;
         most = omega arith;
         one = inl (a .rfc-most);
         next = omega (arith, a .rfc-most, a .rp-least);
       }
 
-  refreshing-sent : (p : Past) (now n : ℕ) → Refreshes c p now n → legalOf c (byAges p) Refr ≡ true → Starting c (sentOf p Refr) (suc now) (refreshedOf n)
-  unfolding refreshedOf
+  refreshing-sent : (p : Past) (now n : ℕ) → Refreshing c p now n → legalOf c (byAges c p) Refr ≡ true → Starting c (sentOf p Refr) (suc now) (afterInitRefresh n)
+  unfolding afterInitRefresh
   refreshing-sent p now n s legal =
-      let kept = refr-kept c p (s .quiet) legal in
+      let kept = refr-kept c p (s .closed) legal in
       let ages = refr-ages p in
       let left = one-less n (c .rfc) (s .least) in
-      by-test (leb n 1)
-      (λ h. rw h
-      (let m = leb-true n 1 h in
+      if-both (Starting c (sentOf p Refr) (suc now)) (leb n 1)
+      (λ h.
+      let m = leb-true n 1 h in
       let single : n ≡ 1 = omega (arith, m, s .least) in
       let once : n * c .rfc ≡ c .rfc = ap (λ x. x * c .rfc) single ∙ omega arith in
       record {
-        quiet = quiet-refr p (s .quiet);
+        closed = quiet-refr p (s .closed);
         kept = omega (arith, ages .1, kept .1, a .rp-most);
         next = omega (arith, ages .0, kept .0, kept .1, s .next, once, a .rfc-least);
-      }))
-      (λ h. rw h
-      (let m = leb-false n 1 h in
+      })
+      (λ h.
+      let m = leb-false n 1 h in
       record {
-        quiet = quiet-refr p (s .quiet);
+        closed = quiet-refr p (s .closed);
         least = omega arith;
         most = omega (arith, s .most);
         one = inr (omega (arith, ages .1, kept .1, a .rp-most));
         next = omega (arith, ages .0, ages .1, kept .0, kept .1, s .next, left, a .rfc-least, a .rp-most);
-      }))
+      })
 
-  refreshing-waits : (p : Past) (now n : ℕ) → Refreshes c p now n → legalOf c (byAges p) Refr ≡ false → Refreshes c (sentOf p Nop) (suc now) n
+  refreshing-waits : (p : Past) (now n : ℕ) → Refreshing c p now n → legalOf c (byAges c p) Refr ≡ false → Refreshing c (sentOf p Nop) (suc now) n
   refreshing-waits p now n s illegal =
       let ages = nop-ages p in
       ⊎-elim
       (λ kept.
-      let short : p .close < c .rp
-      = by-test (leb (c .rp) (p .close))
-      (λ h. absurd (true≢false (sym (refr-ready c p (s .quiet) kept (leb-true _ _ h)) ∙ illegal)))
+      let missing : ageOf p anyPrecharge < c .rp
+      = by-test (leb (c .rp) (ageOf p anyPrecharge))
+      (λ h. absurd (true≢false (sym (refr-ready c p (s .closed) kept (leb-true _ _ h)) ∙ illegal)))
       (λ h. leb-false _ _ h) in
       record {
-        quiet = quiet-nop p (s .quiet);
+        closed = quiet-nop p (s .closed);
         least = s .least;
         most = s .most;
         one = inl (omega (arith, ages .0, kept, a .rfc-most));
-        next = omega (arith, ages .0, ages .1, kept, short, s .next, a .rfc-most, a .rp-most);
+        next = omega (arith, ages .0, ages .1, kept, missing, s .next, a .rfc-most, a .rp-most);
       })
       (λ kept.
-      let short : p .refr < c .rfc
-      = by-test (leb (c .rfc) (p .refr))
-      (λ h. absurd (true≢false (sym (refr-ready c p (s .quiet) (leb-true _ _ h) kept) ∙ illegal)))
+      let missing : ageOf p refreshCycle < c .rfc
+      = by-test (leb (c .rfc) (ageOf p refreshCycle))
+      (λ h. absurd (true≢false (sym (refr-ready c p (s .closed) (leb-true _ _ h) kept) ∙ illegal)))
       (λ h. leb-false _ _ h) in
       record {
-        quiet = quiet-nop p (s .quiet);
+        closed = quiet-nop p (s .closed);
         least = s .least;
         most = s .most;
         one = inr (omega (arith, ages .1, kept, a .rp-most));
-        next = omega (arith, ages .0, ages .1, kept, short, s .next, a .rfc-most, a .rp-most);
+        next = omega (arith, ages .0, ages .1, kept, missing, s .next, a .rfc-most, a .rp-most);
       })
       (s .one)
 
-  mode-sent : (p : Past) (now : ℕ) → Modes c p now → legalOf c (byAges p) (Mrs (16 * c .latency)) ≡ true → Set c (sentOf p (Mrs (16 * c .latency))) 1 (suc now)
-  mode-sent p now s legal =
-      let kept = mrs-kept c p (s .quiet) legal in
-      let ages = mrs-ages p (16 * c .latency) in
+  setting-sent : (p : Past) (now : ℕ) → ModeDue c p now → legalOf c (byAges c p) (Mrs (modeWord c)) ≡ true → Set c (sentOf p (Mrs (modeWord c))) 1 (suc now)
+  setting-sent p now s legal =
+      let kept = refr-kept c p (s .closed) (sym (mrs-refr c p (s .closed)) ∙ legal) .0 in
+      let ages = mrs-ages p (modeWord c) in
       record {
-        moded = ages .2;
+        programmed = ages .2;
         mode = omega (arith, ages .1);
         settled = omega (arith, ages .0, kept, a .rfc-most);
         next = omega (arith, kept, s .next);
       }
 
-  mode-waits : (p : Past) (now : ℕ) → Modes c p now → legalOf c (byAges p) (Mrs (16 * c .latency)) ≡ false → Modes c (sentOf p Nop) (suc now)
-  mode-waits p now s illegal =
+  setting-waits : (p : Past) (now : ℕ) → ModeDue c p now → legalOf c (byAges c p) (Mrs (modeWord c)) ≡ false → ModeDue c (sentOf p Nop) (suc now)
+  setting-waits p now s illegal =
       let ages = nop-ages p in
-      let short : p .refr < c .rfc
-      = by-test (leb (c .rfc) (p .refr))
-      (λ h. absurd (true≢false (sym (mrs-ready c p (s .quiet) (leb-true _ _ h) (s .kept)) ∙ illegal)))
+      let missing : ageOf p refreshCycle < c .rfc
+      = by-test (leb (c .rfc) (ageOf p refreshCycle))
+      (λ h. absurd (true≢false (sym (mrs-refr c p (s .closed) ∙ refr-ready c p (s .closed) (leb-true _ _ h) (s .kept)) ∙ illegal)))
       (λ h. leb-false _ _ h) in
       record {
-        quiet = quiet-nop p (s .quiet);
+        closed = quiet-nop p (s .closed);
         kept = omega (arith, ages .1, s .kept, a .rp-most);
-        next = omega (arith, ages .0, short, s .next, a .rfc-most);
+        next = omega (arith, ages .0, missing, s .next, a .rfc-most);
       }
 
   settling : (p : Past) (now : ℕ) → Set c p 1 now → Set c (sentOf p Nop) 2 (suc now)
   settling p now s =
       let ages = nop-ages p in
       record {
-        moded = nop-moded p ∙ s .moded;
+        programmed = nop-programmed p ∙ s .programmed;
         mode = omega (arith, ages .2, s .mode);
         settled = omega (arith, ages .0, s .settled, a .rfc-most);
         next = omega (arith, s .next);
       }
 
   -- one slot of the initialisation
-  pub starting-slot : (p : Past) (now : ℕ) (stage : Stage) → isDone stage ≡ false → Starting c p now stage
-      → Starting c (startSlotOf c p stage .past) (suc now) (startSlotOf c p stage .stage)
-  unfolding startSlotOf carried tried
-  starting-slot p now (Pause n) e s = rw (s .3, fresh-nop) (paused now n (s .0) (s .1) (s .2))
-  starting-slot p now Close e s = rw (s .1, fresh-deac c (a .rfc-most)) (closing now (s .0))
-  starting-slot p now (Refresh n) e s =
-      by-test (legalOf c (byAges p) Refr) (λ h. rw h (refreshing-sent p now n s h)) (λ h. rw h (refreshing-waits p now n s h))
-  starting-slot p now Mode e s =
-      by-test (legalOf c (byAges p) (Mrs (16 * c .latency))) (λ h. rw h (mode-sent p now s h)) (λ h. rw h (mode-waits p now s h))
-  starting-slot p now Settle e s = settling p now s
-  starting-slot p now Done e s = absurd (true≢false e)
+  pub starting-slot : (p : Past) (now : ℕ) (x : Action) → inService x ≡ false → Starting c p now x → (r : Request) (bus : ℕ) → Next now (servedOf c p r x bus)
+  unfolding servedOf planOf tries quietly
+  starting-slot p now (PowerUp n) e s r bus =
+      rest-only c p (Next now) (afterPause n) (rw (s .3, fresh-nop) (pausing now n (s .0) (s .1) (s .2)))
+  starting-slot p now InitPrecharge e s r bus =
+      performed-both c p (Next now) (tries Deac InitPrecharge (InitRefresh 8))
+      (λ h. rw (s .1) (precharging now (s .0)))
+      (λ h. absurd (true≢false (sym (rw (s .1) (fresh-deac c (a .rfc-most))) ∙ h)))
+  starting-slot p now (InitRefresh n) e s r bus =
+      performed-both c p (Next now) (tries Refr (InitRefresh n) (afterInitRefresh n)) (refreshing-sent p now n s) (refreshing-waits p now n s)
+  starting-slot p now InitMode e s r bus =
+      performed-both c p (Next now) (tries (Mrs (modeWord c)) InitMode InitSettle) (setting-sent p now s) (setting-waits p now s)
+  starting-slot p now InitSettle e s r bus = rest-only c p (Next now) Idle (settling p now s)
+  starting-slot p now Idle e s r bus = absurd (true≢false e)
+  starting-slot p now (Access i) e s r bus = absurd s
+  starting-slot p now (CasLatency i left) e s r bus = absurd s
+  starting-slot p now Turnaround e s r bus = absurd s
+  starting-slot p now PrechargeAll e s r bus = absurd s
+  starting-slot p now Refresh e s r bus = absurd s
+  starting-slot p now (RefreshCycle left) e s r bus = absurd s
 
-  pub starting-first : Starting c freshOf 1 (firstStage c)
+  pub starting-first : Starting c freshOf 1 (firstAction c)
   starting-first = (omega arith, omega (arith, a .long-enough, a .refresh-span, a .rfc-least), omega arith, refl)
 
   -- before service the next slot lies before the first service slot; at service's begin it is that slot
-  pub starting-below : (p : Past) (now : ℕ) (stage : Stage) → isDone stage ≡ false → Starting c p now stage → now < firstService c
+  pub starting-below : (p : Past) (now : ℕ) (x : Action) → inService x ≡ false → Starting c p now x → now < firstService c
   unfolding firstService
-  starting-below p now (Pause n) e s = omega (arith, s .0)
-  starting-below p now Close e s = omega (arith, s .0)
-  starting-below p now (Refresh n) e s = omega (arith, s .next)
-  starting-below p now Mode e s = omega (arith, s .next)
-  starting-below p now Settle e s = omega (arith, s .next)
-  starting-below p now Done e s = absurd (true≢false e)
+  starting-below p now (PowerUp n) e s = omega (arith, s .0)
+  starting-below p now InitPrecharge e s = omega (arith, s .0)
+  starting-below p now (InitRefresh n) e s = omega (arith, s .next)
+  starting-below p now InitMode e s = omega (arith, s .next)
+  starting-below p now InitSettle e s = omega (arith, s .next)
+  starting-below p now Idle e s = absurd (true≢false e)
+  starting-below p now (Access i) e s = absurd s
+  starting-below p now (CasLatency i left) e s = absurd s
+  starting-below p now Turnaround e s = absurd s
+  starting-below p now PrechargeAll e s = absurd s
+  starting-below p now Refresh e s = absurd s
+  starting-below p now (RefreshCycle left) e s = absurd s
 
   pub starting-done : (p : Past) (now : ℕ) → Set c p 2 now → now ≡ firstService c
   unfolding firstService
   starting-done p now s = omega (arith, s .next)
+
+-- at the end of the initialisation no action is under way, and the mode is set
+pub done-set : (c : Config) (p : Past) (now : ℕ) (x : Action) → inService x ≡ true → Starting c p now x → (x ≡ Idle) × Set c p 2 now
+done-set c p now (PowerUp n) e s = absurd (false≢true e)
+done-set c p now InitPrecharge e s = absurd (false≢true e)
+done-set c p now (InitRefresh n) e s = absurd (false≢true e)
+done-set c p now InitMode e s = absurd (false≢true e)
+done-set c p now InitSettle e s = absurd (false≢true e)
+done-set c p now Idle e s = (refl, s)
+done-set c p now (Access i) e s = absurd s
+done-set c p now (CasLatency i left) e s = absurd s
+done-set c p now Turnaround e s = absurd s
+done-set c p now PrechargeAll e s = absurd s
+done-set c p now Refresh e s = absurd s
+done-set c p now (RefreshCycle left) e s = absurd s
+
+-- no slot of the initialisation takes anything off the backlog
+attempt-keeps : (c : Config) (p : Past) (k : Command) (stays next : Action) → performedOf c p (tries k stays next) .outcome .refreshes ≡ false
+unfolding tries quietly
+attempt-keeps c p k stays next = performed-both c p (λ (s : Served). s .outcome .refreshes ≡ false) (tries k stays next) (λ e. refl) (λ e. refl)
+
+rest-keeps : (c : Config) (p : Past) (next : Action) → performedOf c p (rest next) .outcome .refreshes ≡ false
+unfolding quietly
+rest-keeps c p next = rest-only c p (λ (s : Served). s .outcome .refreshes ≡ false) next refl
+
+pub starting-keeps : (c : Config) (p : Past) (r : Request) (x : Action) (bus : ℕ) → inService x ≡ false → servedOf c p r x bus .outcome .refreshes ≡ false
+unfolding servedOf planOf
+starting-keeps c p r (PowerUp k) bus e = rest-keeps c p _
+starting-keeps c p r InitPrecharge bus e = attempt-keeps c p _ _ _
+starting-keeps c p r (InitRefresh k) bus e = attempt-keeps c p _ _ _
+starting-keeps c p r InitMode bus e = attempt-keeps c p _ _ _
+starting-keeps c p r InitSettle bus e = rest-keeps c p _
+starting-keeps c p r Idle bus e = absurd (true≢false e)
+starting-keeps c p r (Access i) bus e = absurd (true≢false e)
+starting-keeps c p r (CasLatency i left) bus e = absurd (true≢false e)
+starting-keeps c p r Turnaround bus e = absurd (true≢false e)
+starting-keeps c p r PrechargeAll bus e = absurd (true≢false e)
+starting-keeps c p r Refresh bus e = absurd (true≢false e)
+starting-keeps c p r (RefreshCycle left) bus e = absurd (true≢false e)
+
+-- and none is a choice
+pub starting-busy : (x : Action) → inService x ≡ false → isIdle x ≡ false
+starting-busy (PowerUp k) e = refl
+starting-busy InitPrecharge e = refl
+starting-busy (InitRefresh k) e = refl
+starting-busy InitMode e = refl
+starting-busy InitSettle e = refl
+starting-busy Idle e = absurd (true≢false e)
+starting-busy (Access i) e = refl
+starting-busy (CasLatency i left) e = refl
+starting-busy Turnaround e = refl
+starting-busy PrechargeAll e = refl
+starting-busy Refresh e = refl
+starting-busy (RefreshCycle left) e = refl

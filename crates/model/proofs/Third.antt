@@ -1,5 +1,5 @@
 -- The third condition: the invariant holds at the start, every call keeps it, and it says all that is promised.
-use Prim.Native.Nat.{ℕ, suc, _+_, _<_}
+use Prim.Native.Nat.{ℕ, suc, _+_, _*_, _<_}
 use native.Mathlib.Omega.{arith}
 use native.Mathlib.Numerals.{add-one}
 use mathlib.Core.Path.{_≡_, refl, sym, ap, subst, _∙_}
@@ -13,248 +13,260 @@ use Rattle.config.specs.Accepted.{Accepted}
 use Rattle.config.specs.declared.Setting.{Setting}
 use Rattle.config.specs.Setting.{configOf, settingOf}
 use Rattle.config.proofs.Laws.{accepted}
-use Rattle.device.specs.declared.Past.{Past}
+use Rattle.device.specs.View.{allClosed}
 use Rattle.device.specs.History.{startLog, fed, allowed}
-use Rattle.device.proofs.Agree.{Agrees, agrees-fresh, agrees-sent, same-verdict}
+use Rattle.device.proofs.Tests.{if-both}
+use Rattle.ages.specs.declared.Past.{Past}
+use Rattle.ages.specs.Ages.{byAges, rowAt}
+use Rattle.ages.proofs.Agree.{Agrees, agrees-fresh, agrees-sent, same-verdict}
 use Rattle.queue.specs.declared.Kind.{Kind}
-use Rattle.queue.specs.Places.{emptyOf}
+use Rattle.queue.specs.declared.Queue.{Queue}
+use Rattle.queue.specs.Places.{emptyOf, getOf}
 use Rattle.refresh.specs.declared.Counters.{Counters}
-use Rattle.refresh.specs.Counting.{tickOf}
-use Rattle.refresh.specs.Urgency.{levelOf}
+use Rattle.refresh.specs.Counting.{startOf, tickOf}
 use Rattle.refresh.proofs.Counts as counts
-use Rattle.startup.specs.declared.Stage.{Stage}
-use Rattle.startup.specs.declared.Stage.the-variants.{Pause, Close, Refresh, Mode, Settle, Done}
-use Rattle.startup.specs.Start.{isDone, startSlotOf}
-use Rattle.service.specs.declared.Action.{Action}
-use Rattle.service.specs.declared.Action.the-variants.{Idle}
-use Rattle.service.specs.Actions.{isIdle, actOf}
+use Rattle.plan.specs.declared.Action.{Action}
+use Rattle.plan.specs.declared.Action.the-variants.{
+  PowerUp,
+  InitPrecharge,
+  InitRefresh,
+  InitMode,
+  InitSettle,
+  Idle,
+  Access,
+  CasLatency,
+  Turnaround,
+  PrechargeAll,
+  Refresh,
+  RefreshCycle,
+}
+use Rattle.plan.specs.declared.Control.{Control}
+use Rattle.plan.specs.Actions.{isIdle, inService, underWay}
+use Rattle.plan.specs.Plan.{planOf, countersAfter}
+use Rattle.plan.specs.Choice.{Choice, choiceOf, currentOf}
+use Rattle.plan.specs.Slot.{tickedOf}
+use Rattle.service.specs.declared.Served.{Served}
+use Rattle.service.specs.Serve.{servedOf}
+use Rattle.sequencer.specs.declared.Machine.{Machine}
 use Rattle.sequencer.specs.declared.Slot.{Slot}
 use Rattle.sequencer.specs.declared.Configured.{Configured}
 use Rattle.sequencer.specs.Calls.{configuredBy, configureOf}
-use Rattle.sequencer.specs.Machine.{blankOf, machineOf, startedOf, servedOf, continuedOf, begunOf, serviceOf, stepOf}
+use Rattle.sequencer.specs.Machine.{blankOf, machineOf}
+use Rattle.sequencer.specs.Steps.{countersOf, chosenOf, actedOf, afterOf}
+use Rattle.sequencer.proofs.Laws.{step-is}
 use Rattle.model.specs.Sdram.{Cells, takes, startSdram, sdramAfter}
-use Rattle.model.specs.World.{World, Call, read, write, slot, backlog, startWorld, busOf, slotIn, afterSlot, reportedAfter, after}
-use Rattle.model.specs.Condition.{isRefr, firstService, servedBy, serviceRefreshes, expiries, refreshes, Reports, Carried, Right, Promised, ThirdCondition}
-use Rattle.model.proofs.Invariant.{Ordered}
+use Rattle.model.specs.World.{World, Call, read, write, slot, backlog, startWorld, busOf, slotIn, afterSlot, after}
+use Rattle.model.specs.Condition.{isRefr, firstService, servedBy, serviceRefreshes, expiries, refreshes, Carried, Right, Promised, ThirdCondition}
+use Rattle.model.proofs.Invariant.{Settled}
 use Rattle.model.proofs.Calls.{slot-steps}
-use Rattle.model.proofs.OrderSend.{if-both, Sends, act-sends, start-sends}
-use Rattle.model.proofs.OrderQueue.{ordered-start, ordered-choice}
-use Rattle.model.proofs.OrderAct.{bus-carries, ordered-act, ordered-start-step}
-use Rattle.model.proofs.Slots.{act-counted, refreshes-before, refreshes-after}
-use Rattle.model.proofs.Standing.{Before, During, Timed, Whole, sound, standing, exact, none-served, device-bounded}
+use Rattle.model.proofs.Plans.{Sends, performed-sends}
+use Rattle.model.proofs.Order.Queue.{ordered-start, ordered-current}
+use Rattle.model.proofs.Order.Slot.{Acted, bus-carries, ordered-act}
+use Rattle.model.proofs.Refreshes.{refreshes-before, refreshes-after}
+use Rattle.model.proofs.Standing.{Before, During, Phase, Whole, sound, standing, exact, none-served}
 use Rattle.model.proofs.Requests.{answered, request-whole}
-use Rattle.model.proofs.Start.{Starting, Set, starting-first, starting-slot, starting-below, starting-done}
-use Rattle.model.proofs.Timing as timing
-use Rattle.model.proofs.Timing.{TimedSlot, timely-service, timely-first, all-placed, queued-doing}
+use Rattle.model.proofs.Start.{Starting, starting-first, starting-slot, starting-below, starting-done, starting-keeps, starting-busy, done-set}
+use Rattle.model.proofs.Timing.Service.{Ends, timely-slot, timely-first, all-placed, queued-doing}
 
--- what a slot does to the device, the queue and the reports, for every kind of slot
-pub record Stepped (c : Config) (w : World) (s : Slot) : Type 0 where
-  pub number : s .number ≡ 0
-  pub configured : s .machine .configured ≡ true
-  pub config : s .machine .config ≡ c
-  pub accepted : s .machine .accepted ≡ w .machine .accepted
-  pub sends : Sends c (w .machine .past) (s .command) (s .machine .past)
-  pub ordered : Ordered (c .geometry) (s .machine .queue) (s .machine .action) (w .machine .accepted) (sdramAfter c (w .sdram) (s .command)) (w .flat)
-      (reportedAfter (s .report) (w .reported))
-  pub reports : Reports w (s .report)
-  pub counted : s .machine .queue .count + length (reportedAfter (s .report) (w .reported)) ≡ w .machine .queue .count + length (w .reported)
+-- the queue is the same at a choice
+current-queue : (x : Control) (n : ℕ) (q : Queue) (closed : Bool) → currentOf x n q closed .queue ≡ q
+unfolding currentOf choiceOf
+current-queue x n q closed = if-both (λ (t : Choice). t .queue ≡ q) (isIdle (x .action)) (λ e. refl) (λ e. refl)
 
--- at the end of the initialisation the mode is set
-done-set : (c : Config) (p : Past) (now : ℕ) (stage : Stage) → isDone stage ≡ true → Starting c p now stage → Set c p 2 now
-done-set c p now (Pause n) e s = absurd (false≢true e)
-done-set c p now Close e s = absurd (false≢true e)
-done-set c p now (Refresh n) e s = absurd (false≢true e)
-done-set c p now Mode e s = absurd (false≢true e)
-done-set c p now Settle e s = absurd (false≢true e)
-done-set c p now Done e s = s
+-- an action under way goes on
+goes-on : (x : Control) (n : ℕ) (q : Queue) (closed : Bool) → isIdle (x .action) ≡ false → currentOf x n q closed ≡ record { control = x; queue = q }
+unfolding currentOf
+goes-on x n q closed e = rw e
+
+-- an action that keeps to the time of service is one of service
+settled-service : (c : Config) (p : Past) (a : Action) → Settled c p a → inService a ≡ true
+settled-service c p (PowerUp k) s = absurd s
+settled-service c p InitPrecharge s = absurd s
+settled-service c p (InitRefresh k) s = absurd s
+settled-service c p InitMode s = absurd s
+settled-service c p InitSettle s = absurd s
+settled-service c p Idle s = refl
+settled-service c p (Access i) s = refl
+settled-service c p (CasLatency i left) s = refl
+settled-service c p Turnaround s = refl
+settled-service c p PrechargeAll s = refl
+settled-service c p Refresh s = refl
+settled-service c p (RefreshCycle left) s = refl
 
 -- With the configuration that the machine holds.
 module _ (w : World) (a : Accepted (w .machine .config)) (v : Whole (w .machine .config) w) (any : ℕ) where
   abbrev c : Config
   c = w .machine .config
 
-  -- a slot that acts for an action
-  acted : (n : Counters) (x : Action) (run : Bool)
-      → Ordered (c .geometry) (w .machine .queue) x (w .machine .accepted) (w .sdram) (w .flat) (w .reported)
-      → Stepped c w (servedOf (w .machine) run (actOf c (w .machine .past) n (w .machine .queue) x (busOf w any)))
-  unfolding servedOf
-  acted n x run o =
-      let e = ordered-act n (busOf w any) a (device-bounded c a) (v .kept .agrees) (bus-carries w any) o in
-      record {
-        number = refl;
-        configured = refl;
-        config = refl;
-        accepted = refl;
-        sends = act-sends c (w .machine .past) n (w .machine .queue) x (busOf w any);
-        ordered = e .ordered;
-        reports = e .reports w refl refl;
-        counted = act-counted c (w .machine .past) n (w .machine .queue) (o .tidy) (w .reported) (w .sdram) (w .flat) x (busOf w any) (o .doing);
-      }
+  abbrev m : Machine
+  m = w .machine
 
-  service-stepped : (n : Counters) → Stepped c w (serviceOf (w .machine) n (busOf w any))
-  unfolding serviceOf begunOf continuedOf
-  service-stepped n =
-      if-both (Stepped c w) (isIdle (w .machine .action))
-      (λ h. acted n _ _ (ordered-choice (w .machine) (levelOf (n .backlog)) (v .ordered)))
-      (λ h. acted n _ _ (v .ordered))
+  -- the action of the slot, what it does, and the slot
+  abbrev x : Choice
+  x = chosenOf m
 
-  start-stepped : isDone (w .machine .stage) ≡ false → Stepped c w (startedOf (w .machine) (startSlotOf c (w .machine .past) (w .machine .stage)))
-  unfolding startedOf
-  start-stepped h =
-      record {
-        number = refl;
-        configured = refl;
-        config = refl;
-        accepted = refl;
-        sends = start-sends c (w .machine .past) (w .machine .stage);
-        ordered = ordered-start-step c (w .machine .past) (w .machine .stage) (v .kept .idle h) (v .ordered);
-        reports = tt;
-        counted = refl;
-      }
+  abbrev s : Served
+  s = actedOf m x (busOf w any)
 
-  -- the device's past agrees with the history after any slot
-  slot-agrees : (s : Slot) → Stepped c w s → Agrees (s .machine .past) (sdramAfter c (w .sdram) (s .command) .log)
+  abbrev now : Slot
+  now = afterOf m x s
+
+  acted : Acted c (m .accepted) (x .queue) (underWay (x .control .action)) (w .sdram) (w .flat) (w .reported) s
+  unfolding chosenOf actedOf
+  acted =
+      ordered-act a (v .kept .agrees) (busOf w any) (bus-carries w any) _
+      (ordered-current (m .control) (countersOf m .backlog) (allClosed (rowAt (m .past))) (v .ordered))
+
+  sends : Sends c (m .past) s
+  unfolding actedOf servedOf
+  sends = performed-sends c (m .past) (planOf c (byAges c (m .past)) (getOf (x .queue) (underWay (x .control .action))) (x .control .action) (busOf w any))
+
+  same-queue : x .queue ≡ m .queue
+  unfolding chosenOf
+  same-queue = current-queue (m .control) (countersOf m .backlog) (m .queue) (allClosed (rowAt (m .past)))
+
+  -- the device's past agrees with the history after the slot
+  slot-agrees : Agrees (s .past) (sdramAfter c (w .sdram) (s .command) .log)
   unfolding sdramAfter
-  slot-agrees s z = rw (z .sends .past) (agrees-sent (device-bounded c a) (v .kept .agrees) (s .command) (z .sends .legal))
+  slot-agrees = rw (sends .past) (agrees-sent a (v .kept .agrees) (s .command) (sends .legal))
 
-  slot-allowed : (s : Slot) → Stepped c w s → allowed c (w .sdram .log) (s .command) ≡ true
-  slot-allowed s z = sym (same-verdict (device-bounded c a) (v .kept .agrees) (s .command)) ∙ z .sends .legal
+  slot-allowed : allowed c (w .sdram .log) (s .command) ≡ true
+  slot-allowed = sym (same-verdict a (v .kept .agrees) (s .command)) ∙ sends .legal
 
-  slot-taken : (s : Slot) → Stepped c w s → takes c (w .sdram) (s .command) ≡ true
+  slot-taken : takes c (w .sdram) (s .command) ≡ true
   unfolding takes
-  slot-taken s z = slot-allowed s z
+  slot-taken = slot-allowed
 
-  -- a slot, given what it leaves of the action and of the counters
-  slot-whole : (s : Slot) → Stepped c w s → (isDone (s .machine .stage) ≡ false → s .machine .action ≡ Idle)
-      → Timed c (afterSlot c w s) (isDone (s .machine .stage)) → Whole c (afterSlot c w s)
-  unfolding afterSlot
-  slot-whole s z idle t =
+  -- the slot keeps the invariant, given its part of refresh
+  slot-whole : Phase c (afterSlot c w now) (inService (s .outcome .action)) → Whole c (afterSlot c w now)
+  unfolding afterSlot afterOf
+  slot-whole t =
       record {
-        kept = record { configured = z .configured; config = z .config; agrees = slot-agrees s z; idle = idle };
-        ordered = rw (z .accepted) (z .ordered);
-        waiting = z .counted ∙ v .waiting ∙ sym (z .accepted);
+        kept = record { configured = v .kept .configured; config = refl; agrees = slot-agrees };
+        ordered = acted .ordered;
+        waiting = acted .counted ∙ ap (λ (q : Queue). q .count + length (w .reported)) same-queue ∙ v .waiting;
         timed = t;
       }
 
   -- A service slot.
 
-  service-stage : (n : Counters) → serviceOf (w .machine) n (busOf w any) .machine .stage ≡ w .machine .stage
-  unfolding serviceOf begunOf continuedOf servedOf
-  service-stage n = if-both (λ (x : Slot). x .machine .stage ≡ w .machine .stage) (isIdle (w .machine .action)) (λ h. refl) (λ h. refl)
-
-  module _ (done : isDone (w .machine .stage) ≡ true) (d : During c w) where
+  module _ (serving : inService (m .control .action) ≡ true) (d : During c w) where
     abbrev ticked : Counters
-    ticked = tickOf (w .machine .counters) (c .rr)
+    ticked = tickOf (m .counters) (c .rr)
 
-    abbrev s : Slot
-    s = serviceOf (w .machine) ticked (busOf w any)
+    counted : countersOf m ≡ ticked
+    unfolding countersOf tickedOf
+    counted = rw serving
 
-    service-timed : TimedSlot c ticked s
-    service-timed =
-        timely-service (w .machine) refl a (v .kept .agrees .aged) (v .ordered .tidy) (all-placed (v .ordered .tidy) (v .ordered .good))
-        (queued-doing (v .ordered .tidy) (w .sdram) (w .flat) (w .machine .action) (v .ordered .doing)) (d .timely) (busOf w any)
+    ends : Ends c (countersOf m) (x .queue) (x .control .action) s
+    unfolding chosenOf actedOf
+    ends =
+        rw counted
+        (timely-slot a (v .kept .agrees .aged) (v .ordered .tidy) (all-placed (v .ordered .tidy) (v .ordered .good)) (m .control)
+        (queued-doing (v .ordered .tidy) (w .sdram) (w .flat) (m .control .action) (v .ordered .doing)) (d .timely) (allClosed (rowAt (m .past))) (busOf w any))
 
     one-more : servedBy c (suc (w .sdram .log .now)) ≡ servedBy c (w .sdram .log .now) + 1
     one-more = omega (arith, d .reached)
 
-    ticked-owed : counts.Owed (c .rr) (servedBy c (w .sdram .log .now) + 1) (refreshes c w) ticked
-    ticked-owed = counts.owed-tick (d .owed) (omega (arith, d .timely .low))
+    ticked-owed : counts.Owed (c .rr) (servedBy c (w .sdram .log .now) + 1) (refreshes c w) (countersOf m)
+    ticked-owed = rw counted (counts.owed-tick (d .owed) (omega (arith, d .timely .low)))
 
     owed-after : (b : Bool) → isRefr (s .command) ≡ b
-        → counts.Owed (c .rr) (servedBy c (w .sdram .log .now) + 1) (cond b (refreshes c w + 1) (refreshes c w)) (s .machine .counters)
-    owed-after true e = let x = service-timed .refreshed e in rw (x .0) (counts.owed-refreshed ticked-owed (x .1))
-    owed-after false e = rw (service-timed .kept e) ticked-owed
+        → counts.Owed (c .rr) (servedBy c (w .sdram .log .now) + 1) (cond b (refreshes c w + 1) (refreshes c w)) (countersAfter (countersOf m) (s .outcome .refreshes))
+    owed-after true e = let y = ends .refreshed e in rw (y .0) (counts.owed-refreshed ticked-owed (y .1))
+    owed-after false e = rw (ends .kept e) ticked-owed
 
-    service-during : During c (afterSlot c w s)
-    unfolding afterSlot sdramAfter fed
+    service-during : During c (afterSlot c w now)
+    unfolding afterSlot afterOf sdramAfter fed
     service-during =
         record {
           reached = omega (arith, d .reached);
           owed =
-              rw (one-more, refreshes-after c (w .sdram .log) (s .command) (d .reached) (slot-allowed s (service-stepped ticked)))
+              rw (one-more, refreshes-after c (w .sdram .log) (s .command) (d .reached) slot-allowed)
               (owed-after (isRefr (s .command)) refl);
-          timely = service-timed .timely;
+          timely = ends .timely;
         }
 
-    service-whole : Whole c (afterSlot c w s)
-    service-whole =
-        let stage = service-stage ticked in
-        slot-whole s (service-stepped ticked) (λ e. absurd (false≢true (sym e ∙ ap isDone stage ∙ done)))
-        (rw (ap isDone stage ∙ done) service-during)
+    service-whole : Whole c (afterSlot c w now)
+    service-whole = slot-whole (rw (settled-service c (s .past) (s .outcome .action) (ends .timely .settled)) service-during)
 
-    service-carried : Carried c w s
+    service-carried : Carried c w now
+    unfolding afterOf
     service-carried =
-        let z = service-stepped ticked in
         let total = counts.owed-total ticked-owed in
         let more = rw (← add-one (w .sdram .log .now)) at one-more in
         record {
-          answered = z .number;
-          taken = slot-taken s z;
-          reports = z .reports;
+          answered = refl;
+          taken = slot-taken;
+          reports = acted .reports w refl refl;
           owed = rw more (omega (arith, total));
-          within = rw more (omega (arith, total, service-timed .low));
-          counted = λ e. rw more (omega (arith, total));
+          within = rw more (omega (arith, total, ends .low));
+          counted = λ e. rw (← counted, more) (omega (arith, total));
         }
 
   -- A slot of the initialisation.
-  module _ (going : isDone (w .machine .stage) ≡ false) (b : Before c w) where
-    abbrev begun : Slot
-    begun = startedOf (w .machine) (startSlotOf c (w .machine .past) (w .machine .stage))
+  module _ (starting : inService (m .control .action) ≡ false) (b : Before c w) where
+    abbrev here : ℕ
+    here = w .sdram .log .now
 
-    start-below : w .sdram .log .now < firstService c
-    start-below = starting-below c a (w .machine .past) (w .sdram .log .now) (w .machine .stage) going (b .starting)
+    start-below : here < firstService c
+    start-below = starting-below c a (m .past) here (m .control .action) starting (b .starting)
 
-    start-after : Starting c (startSlotOf c (w .machine .past) (w .machine .stage) .past) (suc (w .sdram .log .now)) (startSlotOf c (w .machine .past) (w .machine .stage) .stage)
-    start-after = starting-slot c a (w .machine .past) (w .sdram .log .now) (w .machine .stage) going (b .starting)
+    same-action : x ≡ record { control = m .control; queue = m .queue }
+    unfolding chosenOf
+    same-action = goes-on (m .control) (countersOf m .backlog) (m .queue) (allClosed (rowAt (m .past))) (starting-busy (m .control .action) starting)
 
-    start-none : serviceRefreshes c (fed c (w .sdram .log) (begun .command) .past) ≡ 0
-    start-none = refreshes-before c (w .sdram .log) (begun .command) start-below ∙ b .none
+    start-after : Starting c (s .past) (suc here) (s .outcome .action)
+    unfolding actedOf
+    start-after = rw same-action (starting-slot c a (m .past) here (m .control .action) starting (b .starting) _ (busOf w any))
 
-    start-timed : (x : Bool) → isDone (startSlotOf c (w .machine .past) (w .machine .stage) .stage) ≡ x → Timed c (afterSlot c w begun) x
-    unfolding afterSlot sdramAfter fed startedOf
-    start-timed false e = record { starting = start-after; counters = b .counters; none = start-none }
+    still : countersAfter (countersOf m) (s .outcome .refreshes) ≡ m .counters
+    unfolding actedOf countersOf tickedOf countersAfter
+    still = rw (same-action, starting-keeps c (m .past) (getOf (m .queue) (underWay (m .control .action))) (m .control .action) (busOf w any) starting, starting)
+
+    stand-still : countersAfter (countersOf m) (s .outcome .refreshes) ≡ startOf (c .rr)
+    stand-still = still ∙ b .counters
+
+    start-none : serviceRefreshes c (fed c (w .sdram .log) (s .command) .past) ≡ 0
+    start-none = refreshes-before c (w .sdram .log) (s .command) start-below ∙ b .none
+
+    start-timed : (t : Bool) → inService (s .outcome .action) ≡ t → Phase c (afterSlot c w now) t
+    unfolding afterSlot afterOf sdramAfter fed
+    start-timed false e = record { starting = start-after; counters = stand-still; none = start-none }
     start-timed true e =
-        let set = done-set c (startSlotOf c (w .machine .past) (w .machine .stage) .past) (suc (w .sdram .log .now)) (startSlotOf c (w .machine .past) (w .machine .stage) .stage) e start-after in
-        let first = starting-done c a (startSlotOf c (w .machine .past) (w .machine .stage) .past) (suc (w .sdram .log .now)) set in
-        let none-yet : servedBy c (suc (w .sdram .log .now)) ≡ 0 = omega (arith, first) in
+        let set = done-set c (s .past) (suc here) (s .outcome .action) e start-after in
+        let first = starting-done c a (s .past) (suc here) (set .1) in
+        let none-yet : servedBy c (suc here) ≡ 0 = omega (arith, first) in
         record {
           reached = omega (arith, first);
-          owed = rw (none-yet, start-none, b .counters) (counts.owed-start (omega (arith, a .long-enough, a .access-span)));
-          timely = rw (b .counters, v .kept .idle going) (timely-first a (w .machine .queue) (set .moded) (set .mode) (set .settled));
+          owed = rw (none-yet, start-none, stand-still) (counts.owed-start (omega (arith, a .long-enough, a .access-span)));
+          timely = rw (stand-still, set .0) (timely-first a _ (set .1 .programmed) (set .1 .mode) (set .1 .settled));
         }
 
-    start-whole : Whole c (afterSlot c w begun)
-    unfolding startedOf
-    start-whole = slot-whole begun (start-stepped going) (λ e. v .kept .idle going) (start-timed (isDone (begun .machine .stage)) refl)
+    start-whole : Whole c (afterSlot c w now)
+    start-whole = slot-whole (start-timed (inService (s .outcome .action)) refl)
 
-    start-carried : Carried c w begun
+    start-carried : Carried c w now
+    unfolding afterOf
     start-carried =
-        let z = start-stepped going in
-        let empty : expiries c (w .sdram .log .now + 1) ≡ 0 = none-served c (w .sdram .log .now + 1) (omega (arith, start-below)) in
+        let empty : expiries c (here + 1) ≡ 0 = none-served c (here + 1) (omega (arith, start-below)) in
         record {
-          answered = z .number;
-          taken = slot-taken begun z;
-          reports = z .reports;
+          answered = refl;
+          taken = slot-taken;
+          reports = acted .reports w refl refl;
           owed = omega (arith, b .none);
           within = omega (arith, empty);
-          counted = λ e. absurd (false≢true (sym going ∙ e));
+          counted = λ e. absurd (false≢true (sym starting ∙ e));
         }
 
   -- Any slot.
-
-  step-both : (P : Slot → Type 0) → (isDone (w .machine .stage) ≡ true → During c w → P (serviceOf (w .machine) (tickOf (w .machine .counters) (c .rr)) (busOf w any)))
-      → (isDone (w .machine .stage) ≡ false → Before c w → P (startedOf (w .machine) (startSlotOf c (w .machine .past) (w .machine .stage))))
-      → P (slotIn w any)
-  unfolding slotIn stepOf
-  step-both P served started = rw (slot-steps (w .machine) (busOf w any) (sound a v)) (go (isDone (w .machine .stage)) refl (v .timed))
-    where
-      go : (x : Bool) → isDone (w .machine .stage) ≡ x → Timed c w x
-          → P (cond x (serviceOf (w .machine) (tickOf (w .machine .counters) (c .rr)) (busOf w any)) (startedOf (w .machine) (startSlotOf c (w .machine .past) (w .machine .stage))))
-      go true e t = served e t
-      go false e t = started e t
-
   slot-own : Whole c (afterSlot c w (slotIn w any)) × Carried c w (slotIn w any)
-  slot-own = step-both (λ x. Whole c (afterSlot c w x) × Carried c w x) (λ e d. (service-whole e d, service-carried e d)) (λ e b. (start-whole e b, start-carried e b))
+  unfolding slotIn
+  slot-own = rw (slot-steps m (busOf w any) (sound a v), step-is m (busOf w any)) (go (inService (m .control .action)) refl (v .timed))
+    where
+      go : (t : Bool) → inService (m .control .action) ≡ t → Phase c w t → Whole c (afterSlot c w now) × Carried c w now
+      go true e d = (service-whole e d, service-carried e d)
+      go false e b = (start-whole e b, start-carried e b)
 
 pub slot-right : {c : Config} (w : World) → Accepted c → Whole c w → (any : ℕ) → Whole c (afterSlot c w (slotIn w any)) × Carried c w (slotIn w any)
 slot-right {c} w a v =
@@ -282,8 +294,8 @@ start-world : (c : Config) → Accepted c → (first : Cells) → Whole c (start
 unfolding startWorld machineOf startSdram startLog emptyOf
 start-world c a first =
     record {
-      kept = record { configured = refl; config = refl; agrees = agrees-fresh; idle = λ e. refl };
-      ordered = ordered-start (c .geometry) first;
+      kept = record { configured = refl; config = refl; agrees = agrees-fresh };
+      ordered = ordered-start (c .geometry) first (8 * c .rr);
       waiting = refl;
       timed = record { starting = starting-first c a; counters = refl; none = refl };
     }

@@ -3,23 +3,22 @@
 -- history, the flat memory and the reports. What pins the rules themselves is document 01 beside their definitions, E1 to E12 and the slips.
 use Prim.Native.Nat.{ℕ, _+_, _-_, _*_, _%_, _^_, _≤_, _<_}
 use mathlib.Core.Path.{_≡_}
-use mathlib.Core.Bool.{Bool, true, false, cond, _&&_}
+use mathlib.Core.Bool.{Bool, true, cond, _&&_}
 use mathlib.Core.List.{List, [], _∷_, List·Memᴰ}
 use lib.Dec.{eqb, leb}
 use lib.ListN.{length}
 use Rattle.config.specs.declared.Config.{Config}
 use Rattle.config.specs.Setting.{configOf}
 use Rattle.command.specs.declared.Command.{Command}
-use Rattle.command.specs.declared.Command.the-variants.{Nop, Act, Wrt, Pre, Deac, Refr, Mrs}
 use Rattle.address.specs.Map.{capacityOf, cellOf}
-use Rattle.device.specs.View.{allClosed}
+use Rattle.device.specs.View.{refreshCycle, starts, allClosed}
 use Rattle.device.specs.Rules.{legalOf}
-use Rattle.device.specs.Ages.{byAges, bankOf, rowKept}
-use Rattle.device.specs.History.{History, allowed, byHistory, openRow}
+use Rattle.device.specs.History.{History, allowed, openRow}
+use Rattle.ages.specs.Ages.{byAges, rowAt}
 use Rattle.queue.specs.declared.Kind.{Kind}
 use Rattle.refresh.specs.Counting.{expiriesOf, tickOf}
-use Rattle.startup.specs.Start.{isDone}
-use Rattle.service.specs.declared.Report.{Report}
+use Rattle.plan.specs.declared.Report.{Report}
+use Rattle.plan.specs.Actions.{inService}
 use Rattle.sequencer.specs.declared.Reading.{Reading}
 use Rattle.sequencer.specs.declared.Requested.{Requested}
 use Rattle.sequencer.specs.declared.Slot.{Slot}
@@ -37,15 +36,9 @@ firstService c = 8 * c .rr + c .rp + 8 * c .rfc + 3
 abbrev pub servedBy : Config → ℕ → ℕ
 servedBy c now = now - firstService c
 
+-- a REFR: it starts the refresh cycle
 abbrev pub isRefr : Command → Bool
-isRefr Nop = false
-isRefr (Act b r) = false
-isRefr (Command.Read b k) = false
-isRefr (Wrt b k h) = false
-isRefr (Pre b) = false
-isRefr Deac = false
-isRefr Refr = true
-isRefr (Mrs w) = false
+isRefr k = starts refreshCycle k
 
 -- the REFRs sent from the first service slot on
 abbrev pub serviceRefreshes : Config → History → ℕ
@@ -88,11 +81,11 @@ pub record Standing (c : Config) (w : World) : Type 0 where
   pub sound : recordNumberOf (w .machine) ≡ 0
   pub configured : w .machine .config ≡ c
   -- what the machine takes for legal, for an open row and for all banks closed is what the SDRAM's own history says
-  pub legal : (k : Command) → legalOf c (byAges (w .machine .past)) k ≡ allowed c (w .sdram .log) k
-  pub rows : (b : ℕ) → b < 2 ^ (c .geometry .banks) → rowKept (bankOf (w .machine .past) b) ≡ openRow (w .sdram .log .past) b
-  pub closed : allClosed (byAges (w .machine .past)) ≡ allClosed (byHistory (w .sdram .log .now) (w .sdram .log .past))
+  pub legal : (k : Command) → legalOf c (byAges c (w .machine .past)) k ≡ allowed c (w .sdram .log) k
+  pub rows : (b : ℕ) → b < 2 ^ (c .geometry .banks) → rowAt (w .machine .past) b ≡ openRow (w .sdram .log .past) b
+  pub closed : allClosed (rowAt (w .machine .past)) ≡ allClosed (openRow (w .sdram .log .past))
   -- service begins with the first service slot
-  pub service : isDone (w .machine .stage) ≡ leb (firstService c) (w .sdram .log .now)
+  pub service : inService (w .machine .control .action) ≡ leb (firstService c) (w .sdram .log .now)
   -- no more REFRs than expiries; the backlog is from 0 to 13
   pub owed : refreshes c w ≤ expiries c (w .sdram .log .now)
   pub backlog : backlogIn c w ≤ 13
@@ -124,7 +117,7 @@ pub record Carried (c : Config) (w : World) (s : Slot) : Type 0 where
   -- within the slot, before its own REFR is counted: the backlog that a service slot's choice sees, from 0 to 13
   pub owed : refreshes c w ≤ expiries c (w .sdram .log .now + 1)
   pub within : expiries c (w .sdram .log .now + 1) - refreshes c w ≤ 13
-  pub counted : isDone (w .machine .stage) ≡ true → tickOf (w .machine .counters) (c .rr) .backlog ≡ expiries c (w .sdram .log .now + 1) - refreshes c w
+  pub counted : inService (w .machine .control .action) ≡ true → tickOf (w .machine .counters) (c .rr) .backlog ≡ expiries c (w .sdram .log .now + 1) - refreshes c w
 
 -- The reading call gives exactly the backlog.
 pub record Exact (c : Config) (w : World) (r : Reading) : Type 0 where

@@ -4,13 +4,11 @@ use mathlib.Core.Bool.{cond}
 use lib.Dec.{eqb}
 use Rattle.config.specs.declared.Geometry.{Geometry}
 use Rattle.address.specs.Map.{cellOf}
+use Rattle.address.specs.Memory.{put}
 use Rattle.queue.specs.declared.Kind.{Kind}
-use Rattle.queue.specs.declared.Kind.the-variants.{Read, Write}
+use Rattle.queue.specs.declared.Kind.the-variants.{Read}
+use Rattle.queue.specs.Memory.{memoryAfter}
 use Rattle.model.specs.Sdram.{Cells}
-
--- a function with one value changed
-abbrev pub changed : {A : Type 0} → (ℕ → A) → ℕ → A → ℕ → A
-changed f at v = λ n. cond (eqb n at) v (f n)
 
 pub record Flat : Type 0 where
   -- the halfword at each address; even addresses below the capacity count
@@ -25,18 +23,14 @@ pub record Flat : Type 0 where
 unfoldable pub startFlat : Geometry → Cells → Flat
 startFlat g m = record { contents = λ a. m (cellOf g a); count = 0; kinds = λ n. Read; given = λ n. 0 }
 
-abbrev pub contentsAfter : Kind → (ℕ → ℕ) → ℕ → ℕ → ℕ → ℕ
-contentsAfter Read m address halfword = m
-contentsAfter Write m address halfword = changed m address halfword
-
 -- an accepted request: the count rises by one and is its number; a write puts its halfword, a read is given one at once
 unfoldable pub taken : Flat → Kind → ℕ → ℕ → Flat
 taken f kind address halfword =
     record {
-      contents = contentsAfter kind (f .contents) address halfword;
+      contents = memoryAfter kind address halfword (f .contents);
       count = f .count + 1;
-      kinds = changed (f .kinds) (f .count + 1) kind;
-      given = changed (f .given) (f .count + 1) (f .contents address);
+      kinds = put eqb (f .kinds) (f .count + 1) kind;
+      given = put eqb (f .given) (f .count + 1) (f .contents address);
     }
 
 -- a request with its answer: one that is answered with 0 is accepted; a refused one changes nothing

@@ -9,6 +9,7 @@ use Rattle.address.specs.declared.Bank.{Bank}
 use Rattle.address.specs.declared.Row.{Row}
 use Rattle.address.specs.declared.Column.{Column}
 use Rattle.address.specs.declared.Cell.{Cell}
+use Rattle.address.specs.Memory.{put}
 use Rattle.command.specs.declared.Command.{Command}
 use Rattle.command.specs.declared.Command.the-variants.{Nop, Act, Read, Wrt, Pre, Deac, Refr, Mrs}
 use Rattle.device.specs.History.{Log, startLog, allowed, fed, openRow}
@@ -21,7 +22,7 @@ abbrev pub sameCell : Cell → Cell → Bool
 sameCell x y = eqb (x .bank .0) (y .bank .0) && (eqb (x .row .0) (y .row .0) && eqb (x .column .0) (y .column .0))
 
 unfoldable pub stored : Cells → Cell → ℕ → Cells
-stored m x h = λ y. cond (sameCell y x) h (m y)
+stored m x h = put sameCell m x h
 
 -- a halfword that is on the bus in a slot
 pub record Driven : Type 0 where

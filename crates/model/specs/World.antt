@@ -4,7 +4,7 @@ use mathlib.Core.List.{List, [], _∷_}
 use mathlib.Core.Option.{Option, none, some}
 use Rattle.config.specs.declared.Config.{Config}
 use Rattle.queue.specs.declared.Kind.{Kind}
-use Rattle.service.specs.declared.Report.{Report}
+use Rattle.plan.specs.declared.Report.{Report}
 use Rattle.sequencer.specs.declared.Machine.{Machine}
 use Rattle.sequencer.specs.declared.Requested.{Requested}
 use Rattle.sequencer.specs.declared.Slot.{Slot}

@@ -4,8 +4,8 @@ use mathlib.Core.List.{List, _++_}
 use native.Mathlib.Nat.{not-suc-le-zero, le-of-suc-le-suc}
 use lib.ListN.{length, getD}
 use Rattle.queue.specs.declared.Request.{Request}
-use Rattle.queue.specs.Places.{blankOf, without}
-use Rattle.queue.specs.Order.{Each, none, more}
+use Rattle.queue.specs.Places.{noRequest, without}
+use Rattle.queue.proofs.Order.{Each, none, more}
 
 module _ {P : Request → Type 0} where
   pub each-append : {xs ys : List Request} → Each P xs → Each P ys → Each P (xs ++ ys)
@@ -19,7 +19,7 @@ module _ {P : Request → Type 0} where
   each-without zero (more p ps) = ps
   each-without (suc at) (more p ps) = more p (each-without at ps)
 
-  pub each-at : {l : List Request} → Each P l → (at : ℕ) → at < length l → P (getD l at blankOf)
+  pub each-at : {l : List Request} → Each P l → (at : ℕ) → at < length l → P (getD l at noRequest)
   each-at none at h = absurd (not-suc-le-zero h)
   each-at (more p ps) zero h = p
   each-at (more p ps) (suc at) h = each-at ps at (le-of-suc-le-suc h)

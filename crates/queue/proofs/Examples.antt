@@ -11,14 +11,14 @@ use Rattle.queue.specs.declared.Found.{Found}
 use Rattle.queue.specs.declared.Found.the-variants.{At, Nothing}
 use Rattle.queue.specs.declared.Request.{Request}
 use Rattle.queue.specs.declared.Queue.{Queue}
-use Rattle.queue.specs.Places.{blankOf, without, emptyOf, acceptOf, removeOf, getOf}
+use Rattle.queue.specs.Places.{noRequest, without, emptyOf, acceptOf, removeOf, getOf}
 use Rattle.queue.specs.Oldest.{blockedOf, readyOf, oldestOf}
-use Rattle.queue.specs.Order.{Rising, end, next}
-use Rattle.queue.specs.Memory.{servedOf, Consistent, same, then}
+use Rattle.queue.proofs.Order.{Rising, end, next}
+use Rattle.queue.proofs.Consistent.{applied, Consistent, same, then}
 
 -- a request of a kind at an address, with a number and a halfword
 abbrev ask : ℕ → Kind → ℕ → ℕ → Request
-ask n k a h = record { number = n; kind = k; address = a; cell = blankOf .cell; halfword = h }
+ask n k a h = record { number = n; kind = k; address = a; cell = noRequest .cell; halfword = h }
 
 abbrev readAt : ℕ → Request
 readAt a = ask 1 Read a 0
@@ -98,20 +98,20 @@ unfolding accepted emptyOf acceptOf removeOf without
 remove-examples = refl
 
 -- a queued request, an unused place, and a place that there isn't
-get-examples : map (getOf (accepted (nth 1 ∷ nth 2 ∷ []))) (1 ∷ 2 ∷ 8 ∷ []) ≡ nth 2 ∷ blankOf ∷ blankOf ∷ []
+get-examples : map (getOf (accepted (nth 1 ∷ nth 2 ∷ []))) (1 ∷ 2 ∷ 8 ∷ []) ≡ nth 2 ∷ noRequest ∷ noRequest ∷ []
 unfolding accepted emptyOf acceptOf getOf
 get-examples = refl
 
 -- a memory that holds each address at itself, around the address of a write of 7 and of a read
-served-examples : map (servedOf (λ a. a) (ask 1 Write 4 7)) (2 ∷ 4 ∷ 6 ∷ []) ++ map (servedOf (λ a. a) (ask 1 Read 4 7)) (2 ∷ 4 ∷ 6 ∷ [])
+served-examples : map (applied (λ a. a) (ask 1 Write 4 7)) (2 ∷ 4 ∷ 6 ∷ []) ++ map (applied (λ a. a) (ask 1 Read 4 7)) (2 ∷ 4 ∷ 6 ∷ [])
     ≡ 2 ∷ 7 ∷ 6 ∷ 2 ∷ 4 ∷ 6 ∷ []
-unfolding servedOf
+unfolding applied
 served-examples = refl
 
 -- a write of 7 and a read of the same address, numbers 1 and 2: the flat memory has the 7 already, and it is the read's answer
 consistent-example :
     Consistent (λ a. Unit {0}) (λ n. cond (eqb n 2) 7 0) (λ a. 0) (ask 1 Write 4 7 ∷ ask 2 Read 4 0 ∷ []) (λ a. cond (eqb a 4) 7 0)
-unfolding servedOf
+unfolding applied
 consistent-example =
     then (λ (k : Write ≡ Read). let z : _≡_ {A = ℕ} 0 1 = cc in absurd (omega arith)) (then (λ k. refl) (same (λ a o. refl)))
 

@@ -1,8 +1,11 @@
 -- Laws of the queue's definitions.
 pub mod Walks
+pub mod Order
 pub mod Each
 pub mod Tidy
 pub mod Oldest
+pub mod Consistent
 pub mod Memory
 pub mod Numbers
+pub mod Sound
 pub mod Examples

@@ -10,10 +10,11 @@ use lib.ListN.{getD, drop}
 use Rattle.queue.specs.declared.Kind.{Kind}
 use Rattle.queue.specs.declared.Kind.the-variants.{Read, Write}
 use Rattle.queue.specs.declared.Request.{Request}
-use Rattle.queue.specs.Places.{blankOf, without}
+use Rattle.queue.specs.Places.{noRequest, without}
 use Rattle.address.specs.Map.{blockOf}
-use Rattle.queue.specs.Order.{Each, none, more, Free, Servable}
-use Rattle.queue.specs.Memory.{memoryAfter, servedOf, Answered, Consistent, same, then}
+use Rattle.queue.proofs.Order.{Each, none, more, Free, Servable}
+use Rattle.queue.specs.Memory.{memoryAfter}
+use Rattle.queue.proofs.Consistent.{applied, ReadsRight, Consistent, same, then}
 use Rattle.queue.proofs.Oldest.{servable-split}
 
 after-other : (k : Kind) (address halfword : ℕ) (m : ℕ → ℕ) (a : ℕ) → (a ≡ address → ⊥) → memoryAfter k address halfword m a ≡ m a
@@ -35,30 +36,30 @@ after-same : (k : Kind) (address halfword : ℕ) (m n : ℕ → ℕ) (a : ℕ) �
 after-same Read address halfword m n a e = e
 after-same Write address halfword m n a e = rw e
 
-pub served-read : (m : ℕ → ℕ) (r : Request) → r .kind ≡ Read → servedOf m r ≡ m
-unfolding servedOf
+pub served-read : (m : ℕ → ℕ) (r : Request) → r .kind ≡ Read → applied m r ≡ m
+unfolding applied
 served-read m r e = rw e
 
-pub served-write : (m : ℕ → ℕ) (r : Request) → r .kind ≡ Write → servedOf m r ≡ memoryAfter Write (r .address) (r .halfword) m
-unfolding servedOf
+pub served-write : (m : ℕ → ℕ) (r : Request) → r .kind ≡ Write → applied m r ≡ memoryAfter Write (r .address) (r .halfword) m
+unfolding applied
 served-write m r e = rw e
 
-pub served-other : (m : ℕ → ℕ) (r : Request) (a : ℕ) → (a ≡ r .address → ⊥) → servedOf m r a ≡ m a
-unfolding servedOf
+pub served-other : (m : ℕ → ℕ) (r : Request) (a : ℕ) → (a ≡ r .address → ⊥) → applied m r a ≡ m a
+unfolding applied
 served-other m r a h = after-other (r .kind) (r .address) (r .halfword) m a h
 
-pub served-comm : (m : ℕ → ℕ) (r s : Request) → (r .address ≡ s .address → ⊥) → servedOf (servedOf m r) s ≡ servedOf (servedOf m s) r
-unfolding servedOf
+pub served-comm : (m : ℕ → ℕ) (r s : Request) → (r .address ≡ s .address → ⊥) → applied (applied m r) s ≡ applied (applied m s) r
+unfolding applied
 served-comm m r s d = after-comm (r .kind) (s .kind) (r .address) (s .address) (r .halfword) (s .halfword) m d
 
-pub served-same : (m n : ℕ → ℕ) (r : Request) (a : ℕ) → m a ≡ n a → servedOf m r a ≡ servedOf n r a
-unfolding servedOf
+pub served-same : (m n : ℕ → ℕ) (r : Request) (a : ℕ) → m a ≡ n a → applied m r a ≡ applied n r a
+unfolding applied
 served-same m n r a e = after-same (r .kind) (r .address) (r .halfword) m n a e
 
 module _ {ok : ℕ → Type 0} {want : ℕ → ℕ} where
   -- a request that no older one shares a block with can be served first
   pub serve : {m flat : ℕ → ℕ} {xs : List Request} (r : Request) (ys : List Request) → Free r xs
-      → Consistent ok want m (xs ++ r ∷ ys) flat → Answered want m r × Consistent ok want (servedOf m r) (xs ++ ys) flat
+      → Consistent ok want m (xs ++ r ∷ ys) flat → ReadsRight want m r × Consistent ok want (applied m r) (xs ++ ys) flat
   serve r ys none (then a c) = (a, c)
   serve {m} r ys (more {r = x} p ps) (then a c) =
       let d : x .address ≡ r .address → ⊥ = λ e. p (ap blockOf e) in
@@ -69,14 +70,14 @@ module _ {ok : ℕ → Type 0} {want : ℕ → ℕ} where
 
   -- the same of a place of the queue
   pub serve-at : {m flat : ℕ → ℕ} {l : List Request} {at : ℕ} → Servable l at → Consistent ok want m l flat
-      → Answered want m (getD l at blankOf) × Consistent ok want (servedOf m (getD l at blankOf)) (without at l) flat
+      → ReadsRight want m (getD l at noRequest) × Consistent ok want (applied m (getD l at noRequest)) (without at l) flat
   unfolding without
   serve-at {m} {flat} {l} {at} s c =
-      serve (getD l at blankOf) (drop (suc at) l) (s .free) (subst (λ (k : List Request). Consistent ok want m k flat) (servable-split s) c)
+      serve (getD l at noRequest) (drop (suc at) l) (s .free) (subst (λ (k : List Request). Consistent ok want m k flat) (servable-split s) c)
 
   -- an accepted request joins at the end, and the flat memory takes it at once; what was wanted of the older ones stays
   pub arrive : {m flat : ℕ → ℕ} {l : List Request} (want′ : ℕ → ℕ) (r : Request) → Each (λ x. want′ (x .number) ≡ want (x .number)) l
-      → Answered want′ flat r → ok (r .address) → Consistent ok want m l flat → Consistent ok want′ m (l ++ (r ∷ [])) (servedOf flat r)
+      → ReadsRight want′ flat r → ok (r .address) → Consistent ok want m l flat → Consistent ok want′ m (l ++ (r ∷ [])) (applied flat r)
   arrive {m} {flat} want′ r none a o (same f) = then (λ k. a k ∙ sym (f (r .address) o)) (same (λ b p. served-same m flat r b (f b p)))
   arrive want′ r (more p ps) a o (then b c) = then (λ k. p ∙ b k) (arrive want′ r ps a o c)
 

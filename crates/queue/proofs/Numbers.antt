@@ -6,8 +6,8 @@ use native.Mathlib.Nat.{le-of-suc-le-suc, le-refl, le-of-lt, le-trans, lt-of-le-
 use native.Mathlib.Omega.{arith}
 use lib.ListN.{length, getD}
 use Rattle.queue.specs.declared.Request.{Request}
-use Rattle.queue.specs.Places.{blankOf, without}
-use Rattle.queue.specs.Order.{Each, none, more, Rising, end, next}
+use Rattle.queue.specs.Places.{noRequest, without}
+use Rattle.queue.proofs.Order.{Each, none, more, Rising, end, next}
 use Rattle.queue.proofs.Each.{each-at, each-map}
 
 -- nothing queued, nothing accepted
@@ -43,15 +43,11 @@ rising-each (next h s) = more (h, rising-bound s) (each-map (λ x p. (omega arit
 
 -- the number of a removed request is no other's
 pub rising-apart : {low high : ℕ} {l : List Request} (at : ℕ) → at < length l → Rising low high l
-    → Each (λ x. x .number ≡ getD l at blankOf .number → ⊥) (without at l)
+    → Each (λ x. x .number ≡ getD l at noRequest .number → ⊥) (without at l)
 unfolding without
 rising-apart zero h (end k) = none
 rising-apart (suc at) h (end k) = none
 rising-apart zero h (next k s) = each-map (λ x p e. omega (arith, p .0)) (rising-each s)
 rising-apart (suc at) h (next {r = r} {rs = rs} k s) =
     let b = each-at (rising-each s) at (le-of-suc-le-suc h) in
-    more (λ (e : r .number ≡ getD rs at blankOf .number). omega arith) (rising-apart at (le-of-suc-le-suc h) s)
-
--- what is said of every number up to the last accepted one holds of those queued
-pub rising-all : {low high : ℕ} {l : List Request} (P : ℕ → Type 0) → ((n : ℕ) → n ≤ high → P n) → Rising low high l → Each (λ x. P (x .number)) l
-rising-all P f s = each-map (λ x p. f (x .number) (p .1)) (rising-each s)
+    more (λ (e : r .number ≡ getD rs at noRequest .number). omega arith) (rising-apart at (le-of-suc-le-suc h) s)

@@ -14,10 +14,10 @@ use Rattle.queue.specs.declared.Kind.the-variants.{Read, Write}
 use Rattle.queue.specs.declared.Found.{Found}
 use Rattle.queue.specs.declared.Found.the-variants.{At, Nothing}
 use Rattle.queue.specs.declared.Request.{Request}
-use Rattle.queue.specs.Places.{blankOf}
+use Rattle.queue.specs.Places.{noRequest}
 use Rattle.queue.specs.Oldest.{sameKind, sharedBy, blockedOf, readyOf, firstOf, oldestOf}
 use Rattle.address.specs.Map.{blockOf}
-use Rattle.queue.specs.Order.{none, more, Free, Servable, Served}
+use Rattle.queue.proofs.Order.{none, more, Free, Servable, OldestAt}
 
 -- what a test that found place j says: it passes there, and failed at the places before
 pub record First (test : ℕ → Bool) (i n j : ℕ) : Type 0 where
@@ -86,55 +86,42 @@ free-shared r none = refl
 free-shared r (more p ps) = rw (ne-eqb _ _ p) (free-shared r ps)
 
 -- a place where a request of the list has the block
-pub shared-true : (b : ℕ) (l : List Request) → sharedBy b l ≡ true → (j : ℕ) × (j < length l) × (blockOf (getD l j blankOf .address) ≡ b)
+pub shared-true : (b : ℕ) (l : List Request) → sharedBy b l ≡ true → (j : ℕ) × (j < length l) × (blockOf (getD l j noRequest .address) ≡ b)
 shared-true b [] e = absurd (false≢true e)
 shared-true b (x ∷ xs) e = go (eqb (blockOf (x .address)) b) refl (shared-true b xs)
   where
     go : (t : Bool) → eqb (blockOf (x .address)) b ≡ t
-        → (sharedBy b xs ≡ true → (j : ℕ) × (j < length xs) × (blockOf (getD xs j blankOf .address) ≡ b))
-        → (j : ℕ) × (j < suc (length xs)) × (blockOf (getD (x ∷ xs) j blankOf .address) ≡ b)
+        → (sharedBy b xs ≡ true → (j : ℕ) × (j < length xs) × (blockOf (getD xs j noRequest .address) ≡ b))
+        → (j : ℕ) × (j < suc (length xs)) × (blockOf (getD (x ∷ xs) j noRequest .address) ≡ b)
     go true p later = (0, omega arith, eqb-true _ _ p)
     go false p later = let r = later (rw p at e) in (suc (r .0), omega arith, r .2)
 
 -- unblocked means servable, both ways
 pub blocked-false : (l : List Request) (at : ℕ) → at < length l → blockedOf l at ≡ false → Servable l at
 unfolding blockedOf
-blocked-false l at h e = record { within = h; free = shared-false (getD l at blankOf) (take at l) (rw (lt-ltb _ _ h) at e) }
+blocked-false l at h e = record { within = h; free = shared-false (getD l at noRequest) (take at l) (rw (lt-ltb _ _ h) at e) }
 
 pub servable-blocked : {l : List Request} {at : ℕ} → Servable l at → blockedOf l at ≡ false
 unfolding blockedOf
-servable-blocked {l} {at} s = simp (lt-ltb _ _ (s .within), free-shared (getD l at blankOf) (s .free))
-
--- blocked means that an older request has the block
-pub blocked-true : (l : List Request) (at : ℕ) → blockedOf l at ≡ true
-    → (j : ℕ) × (j < at) × (blockOf (getD l j blankOf .address) ≡ blockOf (getD l at blankOf .address))
-unfolding blockedOf
-blocked-true l at e = go (ltb at (length l)) refl
-  where
-    go : (b : Bool) → ltb at (length l) ≡ b → (j : ℕ) × (j < at) × (blockOf (getD l j blankOf .address) ≡ blockOf (getD l at blankOf .address))
-    go true p =
-        let r = shared-true (blockOf (getD l at blankOf .address)) (take at l) (rw p at e) in
-        let k : r .0 < at = omega (arith, length-take at l) in
-        (r .0, k, rw (getD-take at l (r .0) blankOf k) at (r .2))
-    go false p = absurd (false≢true (rw p at e))
+servable-blocked {l} {at} s = simp (lt-ltb _ _ (s .within), free-shared (getD l at noRequest) (s .free))
 
 both : (a b : Bool) → a && b ≡ true → (a ≡ true) × (b ≡ true)
 both true b e = (refl, e)
 both false b e = absurd (false≢true e)
 
-pub ready-true : (k : Kind) (l : List Request) (at : ℕ) → at < length l → readyOf k l at ≡ true → (getD l at blankOf .kind ≡ k) × Servable l at
+pub ready-true : (k : Kind) (l : List Request) (at : ℕ) → at < length l → readyOf k l at ≡ true → (getD l at noRequest .kind ≡ k) × Servable l at
 unfolding readyOf
 ready-true k l at h e =
-    let p = both (sameKind (getD l at blankOf .kind) k) (not (blockedOf l at)) e in
+    let p = both (sameKind (getD l at noRequest .kind) k) (not (blockedOf l at)) e in
     (same-kind _ _ (p .0), blocked-false l at h (not-true _ (p .1)))
 
-pub ready-false : (k : Kind) (l : List Request) (at : ℕ) → readyOf k l at ≡ false → getD l at blankOf .kind ≡ k → blockedOf l at ≡ true
+pub ready-false : (k : Kind) (l : List Request) (at : ℕ) → readyOf k l at ≡ false → getD l at noRequest .kind ≡ k → blockedOf l at ≡ true
 unfolding readyOf
 ready-false k l at e p =
-    let s : sameKind (getD l at blankOf .kind) k ≡ true = rw p (kind-same k) in
+    let s : sameKind (getD l at noRequest .kind) k ≡ true = rw p (kind-same k) in
     not-false _ (rw s at e)
 
-pub oldest-found : (k : Kind) (l : List Request) (at : ℕ) → oldestOf k l ≡ At at → Served k l at
+pub oldest-found : (k : Kind) (l : List Request) (at : ℕ) → oldestOf k l ≡ At at → OldestAt k l at
 unfolding oldestOf
 oldest-found k l at e =
     let f = first-found (readyOf k l) (length l) 0 at e in
@@ -142,38 +129,17 @@ oldest-found k l at e =
     record { servable = r .1; kind = r .0; oldest = λ i h p. ready-false k l i (f .before i (omega arith) h) p }
 
 pub oldest-nothing : (k : Kind) (l : List Request) → oldestOf k l ≡ Nothing
-    → (i : ℕ) → i < length l → getD l i blankOf .kind ≡ k → blockedOf l i ≡ true
+    → (i : ℕ) → i < length l → getD l i noRequest .kind ≡ k → blockedOf l i ≡ true
 unfolding oldestOf
 oldest-nothing k l e i h p = ready-false k l i (first-nothing (readyOf k l) (length l) 0 e i (omega arith) (omega arith)) p
-
--- the oldest request is never blocked
-pub oldest-some : (k : Kind) (r : Request) (l : List Request) → r .kind ≡ k → oldestOf k (r ∷ l) ≡ At 0
-unfolding oldestOf readyOf blockedOf
-oldest-some k r l p = rw (p, kind-same k, lt-ltb 0 (length (r ∷ l)) (omega arith))
-
--- what the search finds is determined by what it says
-pub served-oldest : {k : Kind} {l : List Request} {at : ℕ} → Served k l at → oldestOf k l ≡ At at
-served-oldest {k} {l} {at} s = go (oldestOf k l) refl
-  where
-    clash : (i : ℕ) → Servable l i → blockedOf l i ≡ true → ⊥
-    clash i h b = true≢false (sym b ∙ servable-blocked h)
-
-    order : (j : ℕ) → Served k l j → Dec (at < j) → Dec (j < at) → at ≡ j
-    order j t (yes h) d = absurd (clash at (s .servable) (t .oldest at h (s .kind)))
-    order j t (no h) (yes g) = absurd (clash j (t .servable) (s .oldest j g (t .kind)))
-    order j t (no h) (no g) = omega arith
-
-    go : (f : Found) → oldestOf k l ≡ f → oldestOf k l ≡ At at
-    go (At j) e = e ∙ ap At (sym (order j (oldest-found k l j e) (decLt at j) (decLt j at)))
-    go Nothing e = absurd (clash at (s .servable) (oldest-nothing k l e at (s .servable .within) (s .kind)))
 
 -- a request that can be served stays so while others arrive
 pub servable-arrive : {l : List Request} {at : ℕ} (ys : List Request) → Servable l at → Servable (l ++ ys) at
 servable-arrive {l} {at} ys s =
     record {
       within = omega (arith, length-append l ys, s .within);
-      free = rw (List·getD-append l ys blankOf at (s .within), take-append-le at l ys (omega (arith, s .within))) (s .free);
+      free = rw (List·getD-append l ys noRequest at (s .within), take-append-le at l ys (omega (arith, s .within))) (s .free);
     }
 
-pub servable-split : {l : List Request} {at : ℕ} → Servable l at → l ≡ take at l ++ getD l at blankOf ∷ drop (suc at) l
-servable-split {l} {at} s = split-at l at blankOf (s .within)
+pub servable-split : {l : List Request} {at : ℕ} → Servable l at → l ≡ take at l ++ getD l at noRequest ∷ drop (suc at) l
+servable-split {l} {at} s = split-at l at noRequest (s .within)

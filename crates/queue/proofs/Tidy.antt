@@ -11,15 +11,17 @@ use lib.ListN.{length, getD, take, drop, replicate, length-append, length-set, r
 use lib.Seq.{getD-take, getD-drop, take-suc-set, take-nil, drop-nil, length-take-le, drop-set-lt, drop-drop, take-append-le, drop-append-le}
 use Rattle.queue.specs.declared.Request.{Request}
 use Rattle.queue.specs.declared.Queue.{Queue}
-use Rattle.queue.specs.Places.{blankOf, heldOf, without, emptyOf, acceptOf, removeOf, getOf, Tidy}
+use Rattle.queue.specs.Places.{noRequest, heldOf, without, emptyOf, acceptOf, removeOf, getOf}
 use Rattle.queue.proofs.Walks.{length-without}
+
+-- eight places, of which the unused ones are blank: each queue that the calls can make
+pub record Tidy (q : Queue) : Type 0 where
+  pub eight : length (q .places) ≡ 8
+  pub within : q .count ≤ 8
+  pub unused : drop (q .count) (q .places) ≡ replicate (8 - q .count) noRequest
 
 pub tidy-length : {q : Queue} → Tidy q → length (heldOf q) ≡ q .count
 tidy-length {q} t = length-take-le (q .count) (q .places) (rw (t .eight) (t .within))
-
-pub held-empty : heldOf emptyOf ≡ []
-unfolding emptyOf
-held-empty = refl
 
 pub tidy-empty : Tidy emptyOf
 unfolding emptyOf
@@ -80,7 +82,7 @@ module _ {q : Queue} (at : ℕ) (t : Tidy q) (h : at < q .count) where
   unfolding removeOf
   held-remove =
       simp (tidy-length t, lt-ltb _ _ h)
-      (take-append-le (q .count - 1) (without at (q .places)) (blankOf ∷ []) (omega (arith, rest-length, t .within))
+      (take-append-le (q .count - 1) (without at (q .places)) (noRequest ∷ []) (omega (arith, rest-length, t .within))
       ∙ take-without at (q .count - 1) (q .places) (omega arith)
       ∙ ap (λ (n : ℕ). without at (take n (q .places))) (sym count-before))
 
@@ -89,12 +91,12 @@ module _ {q : Queue} (at : ℕ) (t : Tidy q) (h : at < q .count) where
   tidy-removed =
       simp (tidy-length t, lt-ltb _ _ h)
       (record {
-        eight = length-append (without at (q .places)) (blankOf ∷ []) ∙ rw rest-length;
+        eight = length-append (without at (q .places)) (noRequest ∷ []) ∙ rw rest-length;
         within = omega (arith, t .within);
         unused =
-            drop-append-le (q .count - 1) (without at (q .places)) (blankOf ∷ []) (omega (arith, rest-length, t .within))
+            drop-append-le (q .count - 1) (without at (q .places)) (noRequest ∷ []) (omega (arith, rest-length, t .within))
             ∙ rw (drop-without at (q .count - 1) (q .places) (omega arith), ← count-before, t .unused)
-            (replicate-append-replicate (8 - q .count) 1 blankOf ∙ ap (λ (n : ℕ). replicate n blankOf) unused-more);
+            (replicate-append-replicate (8 - q .count) 1 noRequest ∙ ap (λ (n : ℕ). replicate n noRequest) unused-more);
       })
 
 pub tidy-remove : {q : Queue} (at : ℕ) → Tidy q → Tidy (removeOf q at)
@@ -106,24 +108,24 @@ tidy-remove {q} at t = go (decLt at (q .count))
     go (no h) = simp (tidy-length t, le-ltb at (q .count) (omega arith)) t
 
 -- each place as an element of the list: an unused place and no place read as blank
-pub get-held : {q : Queue} (at : ℕ) → Tidy q → getOf q at ≡ getD (heldOf q) at blankOf
+pub get-held : {q : Queue} (at : ℕ) → Tidy q → getOf q at ≡ getD (heldOf q) at noRequest
 unfolding getOf
 get-held {q} at t = go (decLt at (q .count)) (decLt at 8)
   where
-    go : Dec (at < q .count) → Dec (at < 8) → getOf q at ≡ getD (heldOf q) at blankOf
-    go (yes h) e = simp (lt-ltb at 8 (omega (arith, t .within))) (sym (getD-take (q .count) (q .places) at blankOf h))
+    go : Dec (at < q .count) → Dec (at < 8) → getOf q at ≡ getD (heldOf q) at noRequest
+    go (yes h) e = simp (lt-ltb at 8 (omega (arith, t .within))) (sym (getD-take (q .count) (q .places) at noRequest h))
     go (no h) (yes e) =
         let k : q .count + (at - q .count) ≡ at = omega arith in
-        simp (lt-ltb at 8 e, List·getD-eq-default (heldOf q) blankOf {n = at} (omega (arith, tidy-length t)))
-        (ap (λ (i : ℕ). getD (q .places) i blankOf) (sym k)
-        ∙ sym (getD-drop (q .count) (q .places) (at - q .count) blankOf)
-        ∙ rw (t .unused) (getD-replicate (8 - q .count) (at - q .count) blankOf blankOf (omega arith)))
+        simp (lt-ltb at 8 e, List·getD-eq-default (heldOf q) noRequest {n = at} (omega (arith, tidy-length t)))
+        (ap (λ (i : ℕ). getD (q .places) i noRequest) (sym k)
+        ∙ sym (getD-drop (q .count) (q .places) (at - q .count) noRequest)
+        ∙ rw (t .unused) (getD-replicate (8 - q .count) (at - q .count) noRequest noRequest (omega arith)))
     go (no h) (no e) =
-        simp (le-ltb at 8 (omega arith), List·getD-eq-default (heldOf q) blankOf {n = at} (omega (arith, tidy-length t)))
+        simp (le-ltb at 8 (omega arith), List·getD-eq-default (heldOf q) noRequest {n = at} (omega (arith, tidy-length t)))
 
 -- acceptance leaves the queued requests in their places
 pub get-accept : {q : Queue} (r : Request) (at : ℕ) → Tidy q → at < q .count → q .count < 8 → getOf (acceptOf q r) at ≡ getOf q at
 get-accept {q} r at t h k =
     get-held at (tidy-accept r t)
-    ∙ rw (held-accept r t k) (List·getD-append (heldOf q) (r ∷ []) blankOf at (rw (tidy-length t) h))
+    ∙ rw (held-accept r t k) (List·getD-append (heldOf q) (r ∷ []) noRequest at (rw (tidy-length t) h))
     ∙ sym (get-held at t)

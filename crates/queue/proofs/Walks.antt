@@ -11,7 +11,7 @@ use lib.ListN.{length, getD, take, drop, set, length-take, length-drop, length-a
 use lib.Seq.{drop-cons, take-suc, append-snoc, set-at, getD-take, getD-drop, getD-append-add, length-take-le, take-all}
 use Rattle.queue.specs.declared.Found.the-variants.{At, Nothing}
 use Rattle.queue.specs.declared.Request.{Request}
-use Rattle.queue.specs.Places.{blankOf, without}
+use Rattle.queue.specs.Places.{noRequest, without}
 use Rattle.queue.specs.Oldest.{sharedBy, firstOf}
 use Rattle.address.specs.Map.{blockOf}
 
@@ -25,10 +25,10 @@ queued n l i h e = let k : i < min n (length l) = rw length-take at h in (omega 
 
 -- the walk over the older requests, at place i of the first n
 pub shared-step : (b : ℕ) (l : List Request) (n i : ℕ) → i < n → n ≤ length l
-    → sharedBy b (drop i (take n l)) ≡ eqb (blockOf (getD l i blankOf .address)) b || sharedBy b (drop (i + 1) (take n l))
+    → sharedBy b (drop i (take n l)) ≡ eqb (blockOf (getD l i noRequest .address)) b || sharedBy b (drop (i + 1) (take n l))
 shared-step b l n i h k =
     let p : i < length (take n l) = rw length-take-le h in
-    rw (drop-cons (take n l) i blankOf p, getD-take n l i blankOf h, add-one)
+    rw (drop-cons (take n l) i noRequest p, getD-take n l i noRequest h, add-one)
 
 pub shared-end : (b : ℕ) (l : List Request) (n i : ℕ) → n ≤ i → n ≤ length l → sharedBy b (drop i (take n l)) ≡ sharedBy b []
 shared-end b l n i h k =
@@ -55,7 +55,7 @@ pub length-without : (at : ℕ) (l : List Request) → at < length l → length 
 unfolding without
 length-without at l h = simp (length-append, length-take, length-drop) (omega arith)
 
-pub without-later : (at : ℕ) (l : List Request) (i : ℕ) → at ≤ i → getD (without at l) i blankOf ≡ getD l (suc i) blankOf
+pub without-later : (at : ℕ) (l : List Request) (i : ℕ) → at ≤ i → getD (without at l) i noRequest ≡ getD l (suc i) noRequest
 unfolding without
 without-later zero [] i h = refl
 without-later (suc at) [] i h = refl
@@ -72,8 +72,8 @@ moving-length l at i h k =
 moving-set : (l : List Request) (at i : ℕ) (r : Request) → at ≤ i → i < length l
     → set (moving l at i) i r ≡ take i (without at l) ++ r ∷ drop (suc i) l
 moving-set l at i r h k =
-    rw (drop-cons l i blankOf)
-    (set-at (take i (without at l)) (getD l i blankOf) (drop (suc i) l) r i (moving-length l at i h k))
+    rw (drop-cons l i noRequest)
+    (set-at (take i (without at l)) (getD l i noRequest) (drop (suc i) l) r i (moving-length l at i h k))
 
 pub moving-start : (l : List Request) (at : ℕ) → moving l at at ≡ l
 unfolding without
@@ -84,15 +84,15 @@ moving-start (x ∷ xs) (suc at) = ap {B = List Request} (λ r. x ∷ r) (moving
 
 -- one move: the request after place i goes there
 pub moving-step : (l : List Request) (at i : ℕ) → at ≤ i → suc i < length l
-    → set (moving l at i) i (getD (moving l at i) (i + 1) blankOf) ≡ moving l at (i + 1)
+    → set (moving l at i) i (getD (moving l at i) (i + 1) noRequest) ≡ moving l at (i + 1)
 moving-step l at i h k =
     let n : i < length l = omega arith in
     let m = moving-length l at i h n in
     let w : i < length (without at l) = omega (arith, length-without at l (omega arith)) in
-    let e : getD (moving l at i) (i + 1) blankOf ≡ getD l (i + 1) blankOf
-    = ap (λ (j : ℕ). getD (moving l at i) (j + 1) blankOf) (sym m) ∙ getD-append-add (take i (without at l)) (drop i l) 1 blankOf ∙ getD-drop i l 1 blankOf in
-    moving-set l at i (getD (moving l at i) (i + 1) blankOf) h n
-    ∙ rw (e, add-one, take-suc (without at l) i blankOf w, without-later at l i h) (sym (append-snoc (take i (without at l)) (getD l (suc i) blankOf) (drop (suc i) l)))
+    let e : getD (moving l at i) (i + 1) noRequest ≡ getD l (i + 1) noRequest
+    = ap (λ (j : ℕ). getD (moving l at i) (j + 1) noRequest) (sym m) ∙ getD-append-add (take i (without at l)) (drop i l) 1 noRequest ∙ getD-drop i l 1 noRequest in
+    moving-set l at i (getD (moving l at i) (i + 1) noRequest) h n
+    ∙ rw (e, add-one, take-suc (without at l) i noRequest w, without-later at l i h) (sym (append-snoc (take i (without at l)) (getD l (suc i) noRequest) (drop (suc i) l)))
 
 -- the last place, once all have moved
 pub moving-end : (l : List Request) (at i : ℕ) (r : Request) → at ≤ i → suc i ≡ length l → set (moving l at i) i r ≡ without at l ++ (r ∷ [])

@@ -1,5 +1,5 @@
 -- The queue of accepted requests (document 01, "A service slot").
 pub mod Places
 pub mod Oldest
-pub mod Order
 pub mod Memory
+pub mod Sound

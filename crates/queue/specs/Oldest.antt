@@ -10,7 +10,7 @@ use Rattle.queue.specs.declared.Kind.the-variants.{Read, Write}
 use Rattle.queue.specs.declared.Found.{Found}
 use Rattle.queue.specs.declared.Found.the-variants.{At, Nothing}
 use Rattle.queue.specs.declared.Request.{Request}
-use Rattle.queue.specs.Places.{blankOf}
+use Rattle.queue.specs.Places.{noRequest}
 
 abbrev pub sameKind : Kind → Kind → Bool
 sameKind Read Read = true
@@ -25,11 +25,11 @@ sharedBy b (r ∷ rs) = eqb (blockOf (r .address)) b || sharedBy b rs
 
 -- is the request at a place blocked: does an older one have its block? Where there is no request, no
 unfoldable pub blockedOf : List Request → ℕ → Bool
-blockedOf l at = cond (ltb at (length l)) (sharedBy (blockOf (getD l at blankOf .address)) (take at l)) false
+blockedOf l at = cond (ltb at (length l)) (sharedBy (blockOf (getD l at noRequest .address)) (take at l)) false
 
 -- is the request at a place an unblocked one of this kind?
 unfoldable pub readyOf : Kind → List Request → ℕ → Bool
-readyOf k l at = sameKind (getD l at blankOf .kind) k && not (blockedOf l at)
+readyOf k l at = sameKind (getD l at noRequest .kind) k && not (blockedOf l at)
 
 -- the first of the n places from i on that passes a test
 abbrev pub firstOf : (ℕ → Bool) → ℕ → ℕ → Found

@@ -1,6 +1,5 @@
 -- The queued requests in their eight places, oldest first (document 01, "Numbers given back", number 6).
-use Prim.Native.Nat.{ℕ, suc, _+_, _-_, _≤_}
-use mathlib.Core.Path.{_≡_}
+use Prim.Native.Nat.{ℕ, suc, _+_, _-_}
 use mathlib.Core.Bool.{cond}
 use mathlib.Core.List.{List, [], _∷_, _++_}
 use lib.Dec.{ltb}
@@ -10,8 +9,8 @@ use Rattle.queue.specs.declared.Request.{Request}
 use Rattle.queue.specs.declared.Queue.{Queue}
 
 -- what a place holds that no request uses
-abbrev pub blankOf : Request
-blankOf =
+abbrev pub noRequest : Request
+noRequest =
     record {
       number = 0;
       kind = Read;
@@ -29,7 +28,7 @@ unfoldable pub without : ℕ → List Request → List Request
 without at l = take at l ++ drop (suc at) l
 
 unfoldable pub emptyOf : Queue
-emptyOf = record { places = replicate 8 blankOf; count = 0 }
+emptyOf = record { places = replicate 8 noRequest; count = 0 }
 
 -- the request becomes the youngest; a full queue stays as it was
 unfoldable pub acceptOf : Queue → Request → Queue
@@ -39,14 +38,8 @@ acceptOf q r = cond (ltb (q .count) 8) (record { places = set (q .places) (q .co
 unfoldable pub removeOf : Queue → ℕ → Queue
 removeOf q at =
     cond (ltb at (length (heldOf q)))
-    (record { places = without at (q .places) ++ (blankOf ∷ []); count = q .count - 1 })
+    (record { places = without at (q .places) ++ (noRequest ∷ []); count = q .count - 1 })
     q
 
 unfoldable pub getOf : Queue → ℕ → Request
-getOf q at = cond (ltb at 8) (getD (q .places) at blankOf) blankOf
-
--- eight places, of which the unused ones are blank: each queue that the calls can make
-pub record Tidy (q : Queue) : Type 0 where
-  pub eight : length (q .places) ≡ 8
-  pub within : q .count ≤ 8
-  pub unused : drop (q .count) (q .places) ≡ replicate (8 - q .count) blankOf
+getOf q at = cond (ltb at 8) (getD (q .places) at noRequest) noRequest

@@ -3,8 +3,11 @@ use address::Bank;
 use address::Cell;
 use address::Column;
 use address::Row;
-ghost use Rattle.queue.specs.Places.{blankOf, heldOf, emptyOf, acceptOf, removeOf, getOf, without};
+use config::Geometry;
+ghost use Rattle.queue.specs.Places.{noRequest, heldOf, emptyOf, acceptOf, removeOf, getOf, without};
 ghost use Rattle.queue.specs.Oldest.{sameKind, sharedBy, blockedOf, readyOf, oldestOf};
+ghost use Rattle.queue.specs.Sound.{insideOf, soundQueue};
+ghost use Rattle.config.specs.Accepted.{Shaped};
 ghost use lib.ListN.{length, take};
 ghost use mathlib.Core.List.{[], _∷_, _++_};
 ghost use mathlib.Core.Path.{_≡_};
@@ -38,7 +41,7 @@ pub enum Found {
 
 // What an unused place holds.
 fn blank() -> Request
-    ensures { λ r. ⌜ r ≡ blankOf ⌝ }
+    ensures { λ r. ⌜ r ≡ noRequest ⌝ }
 {
     Request {
         number: 0,
@@ -87,7 +90,7 @@ fn shared(places: [Request; 8], end: usize, wanted: u32) -> bool
 // The places without the one at `at`: the later ones move up, and the last becomes blank.
 fn closed(places: [Request; 8], at: usize) -> [Request; 8]
     requires { ⌜ at < 8 ⌝ }
-    ensures { λ r. ⌜ r ≡ without at places ++ (blankOf ∷ []) ⌝ }
+    ensures { λ r. ⌜ r ≡ without at places ++ (noRequest ∷ []) ⌝ }
 {
     let mut moved = places;
     let mut i = at;
@@ -98,6 +101,24 @@ fn closed(places: [Request; 8], at: usize) -> [Request; 8]
     }
     moved[7] = blank();
     moved
+}
+
+// Do the cells of the first `end` requests lie in the geometry?
+fn inside(g: Geometry, places: [Request; 8], end: usize) -> bool
+    requires { ⌜ Shaped g ⌝ }
+    requires { ⌜ end ≤ 8 ⌝ }
+    ensures { λ r. ⌜ r ≡ insideOf g (take end places) ⌝ }
+{
+    let mut i = 0;
+    while i < end {
+        let r = places[i];
+        let cell = r.cell;
+        if !address::holds(g, cell) {
+            return false;
+        }
+        i += 1;
+    }
+    true
 }
 
 impl Queue {
@@ -202,5 +223,18 @@ impl Queue {
             i += 1;
         }
         Found::Nothing
+    }
+
+    // Soundness, its part of the test for number 9: eight requests at most, and the cells of the queued ones lie in the geometry.
+    pub fn sound(self, g: Geometry) -> bool
+        requires { ⌜ Shaped g ⌝ }
+        ensures { λ r. ⌜ r ≡ soundQueue g self ⌝ }
+    {
+        let n = self.count;
+        if 8 < n {
+            return false;
+        }
+        let places = self.places;
+        inside(g, places, n)
     }
 }

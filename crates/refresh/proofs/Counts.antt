@@ -2,16 +2,16 @@
 -- Slots and interval together are one interval more than have expired, and every law on expiries is read off that.
 use mathlib.Core.Path.{_≡_, sym, _∙_}
 use mathlib.Core.Logic.{dite}
-use mathlib.Core.Bool.{cond}
+use mathlib.Core.Bool.{true, cond, _&&_, and-eq-true-iff}
 use Prim.Native.Nat.{ℕ, zero, suc, _+_, _-_, _*_, _/_, _%_, _≤_, _<_}
 use native.Mathlib.Nat.{add-mul, one-mul, add-right-comm, lt-of-not-le, mul-mod-left, mul-add-mod-self-right, mod-eq-of-lt, div-eq-of-lt-le}
 use native.Mathlib.Numerals.{add-one}
 use native.Mathlib.Decide.{decLe}
 use native.Mathlib.Omega.{arith}
 use lib.Dec.{leb}
-use borrow.Author.Tests.{eq-eqb, ne-eqb, le-leb, lt-leb, lt-ltb, le-ltb}
+use borrow.Author.Tests.{eq-eqb, ne-eqb, le-leb, lt-leb, lt-ltb, le-ltb, leb-true}
 use Rattle.refresh.specs.declared.Counters.{Counters}
-use Rattle.refresh.specs.Counting.{startOf, expiresOf, tickOf, refreshedOf, expiriesOf}
+use Rattle.refresh.specs.Counting.{startOf, expiresOf, tickOf, refreshedOf, expiriesOf, soundCounters}
 
 -- What a tick and a refresh do.
 
@@ -51,6 +51,18 @@ pub record Bounded (rr : ℕ) (c : Counters) : Type 0 where
   pub low : 1 ≤ c .interval
   pub high : c .interval ≤ rr
   pub top : c .backlog ≤ 15
+
+-- which is what the test says
+pub sound-bounded : (rr : ℕ) (c : Counters) → soundCounters rr c ≡ true → Bounded rr c
+unfolding soundCounters
+sound-bounded rr c h =
+    let p = and-eq-true-iff (leb 1 (c .interval)) (leb (c .interval) rr && leb (c .backlog) 15) .0 h in
+    let q = and-eq-true-iff (leb (c .interval) rr) (leb (c .backlog) 15) .0 (p .1) in
+    record { low = leb-true _ _ (p .0); high = leb-true _ _ (q .0); top = leb-true _ _ (q .1) }
+
+pub bounded-sound : (rr : ℕ) (c : Counters) → Bounded rr c → soundCounters rr c ≡ true
+unfolding soundCounters
+bounded-sound rr c b = simp (le-leb _ _ (b .low), le-leb _ _ (b .high), le-leb _ _ (b .top))
 
 pub bounded-start : {rr : ℕ} → 1 ≤ rr → Bounded rr (startOf rr)
 unfolding startOf
@@ -93,25 +105,6 @@ counted-expires {rr} {n} {e} {i} k h =
       low = omega (arith, k .low, k .high);
       high = omega arith;
     }
-
-pub counted-tick :
-    {rr n e : ℕ} (c : Counters) → Counted rr n e (c .interval) →
-    Counted rr (n + 1) (cond (expiresOf c) (e + 1) e) ((tickOf c rr) .interval)
-unfolding tickOf
-counted-tick c k =
-    by-interval (c .interval)
-    (λ h. rw (le-leb (c .interval) 1 h) (counted-expires k h))
-    (λ h. rw (lt-leb (c .interval) 1 h) (counted-stays k h))
-
--- below the ceiling the backlog rises exactly where the expiries of `counted-tick` do
-pub tick-backlog :
-    (c : Counters) (rr : ℕ) → c .backlog < 15 →
-    (tickOf c rr) .backlog ≡ cond (expiresOf c) (c .backlog + 1) (c .backlog)
-unfolding tickOf
-tick-backlog c rr l =
-    by-interval (c .interval)
-    (λ h. simp (le-leb (c .interval) 1 h, lt-ltb (c .backlog) 15 l))
-    (λ h. simp (lt-leb (c .interval) 1 h))
 
 -- The bare interval counter: it expires in every rr-th slot.
 
@@ -186,6 +179,3 @@ owed-refreshed {rr} {n} {sent} {c} o h =
 
 pub owed-total : {rr n sent : ℕ} {c : Counters} → Owed rr n sent c → c .backlog + sent ≡ expiriesOf rr n
 owed-total o = sym (counted-expiries (o .counted))
-
-pub owed-backlog : {rr n sent : ℕ} {c : Counters} → Owed rr n sent c → c .backlog ≡ expiriesOf rr n - sent
-owed-backlog o = omega (arith, owed-total o)

@@ -42,9 +42,6 @@ level-in b =
     (λ m. if-both (λ l. Within l b) (leb b 7) (λ h. (leb-false b 3 m, leb-true b 7 h))
     (λ o. if-both (λ l. Within l b) (leb b 11) (λ h. (leb-false b 7 o, leb-true b 11 h)) (λ p. leb-false b 11 p))))
 
-pub level-from : (l : Level) (b : ℕ) → levelOf b ≡ l → Within l b
-level-from l b e = subst (λ (k : Level). Within k b) e (level-in b)
-
 -- the run after a choice, by the backlog: started with 12 or more, ended with 7 or less, kept between
 abbrev pub runBy : Bool → ℕ → Bool
 runBy running b = cond (leb 12 b) true (cond (leb b 7) false running)
@@ -61,9 +58,6 @@ run-by running b = run-within running (levelOf b) b (level-in b)
 
 pub run-starts : (running : Bool) (b : ℕ) → 12 ≤ b → runOf running (levelOf b) ≡ true
 run-starts running b h = simp (level-at Must b h)
-
-pub run-kept : (running : Bool) (b : ℕ) → 8 ≤ b → b ≤ 11 → runOf running (levelOf b) ≡ running
-run-kept running b l h = simp (level-at Need b (l, h))
 
 pub run-ends : (running : Bool) (b : ℕ) → b ≤ 7 → runOf running (levelOf b) ≡ false
 run-ends running b h = run-by running b ∙ simp (lt-leb 12 b (omega arith), le-leb b 7 h)

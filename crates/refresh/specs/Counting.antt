@@ -1,7 +1,7 @@
 -- The interval counter and the backlog (document 01, "Start", "A service slot"), and the expiries that the third condition
 -- counts ("The third condition in full").
 use Prim.Native.Nat.{ℕ, zero, suc, _+_, _-_, _%_}
-use mathlib.Core.Bool.{Bool, cond}
+use mathlib.Core.Bool.{Bool, cond, _&&_}
 use lib.Dec.{leb, ltb, eqb}
 use Rattle.refresh.specs.declared.Counters.{Counters}
 
@@ -35,3 +35,7 @@ refreshedOf c =
 unfoldable pub expiriesOf : ℕ → ℕ → ℕ
 expiriesOf rr zero = 0
 expiriesOf rr (suc n) = cond (eqb (suc n % rr) 0) (expiriesOf rr n + 1) (expiriesOf rr n)
+
+-- soundness of the counters, their part of the test for number 9: the interval is 1 to RR, the backlog 15 at most
+unfoldable pub soundCounters : ℕ → Counters → Bool
+soundCounters rr c = leb 1 (c .interval) && (leb (c .interval) rr && leb (c .backlog) 15)

@@ -1,6 +1,6 @@
 // Owns the refresh counters and their urgency (document 01, "A service slot"): the interval counter with its reload, the
 // backlog, the level that a backlog stands for, and the Must run.
-ghost use Rattle.refresh.specs.Counting.{startOf, expiresOf, raisedOf, tickOf, refreshedOf};
+ghost use Rattle.refresh.specs.Counting.{startOf, expiresOf, raisedOf, tickOf, refreshedOf, soundCounters};
 ghost use Rattle.refresh.specs.Urgency.{levelOf, runOf};
 ghost use mathlib.Core.Path.{_≡_};
 
@@ -74,6 +74,22 @@ impl Counters {
             interval: self.interval,
             backlog: self.backlog - 1,
         }
+    }
+
+    // Soundness, their part of the test for number 9: the interval is 1 to RR, the backlog 15 at most.
+    pub fn sound(self, rr: u16) -> bool
+        ensures { λ r. ⌜ r ≡ soundCounters rr self ⌝ }
+    {
+        if self.interval < 1 {
+            return false;
+        }
+        if rr < self.interval {
+            return false;
+        }
+        if 15 < self.backlog {
+            return false;
+        }
+        true
     }
 }
 

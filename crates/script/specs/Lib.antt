@@ -1,4 +1,2 @@
 -- REPLAY.md, "Script".
-pub mod Number
 pub mod Line
-pub mod Examples

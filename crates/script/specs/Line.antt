@@ -5,8 +5,8 @@ use mathlib.Core.List.{List, [], _∷_}
 use lib.Dec.{ltb, leb, eqb}
 use lib.ListN.{getD, set, replicate}
 use Rattle.text.specs.Spelling.{letters}
-use Rattle.script.specs.Number.{none, numberOf, valueOf}
-use Rattle.script.specs.declared.Number.the-variants.{Empty, Wrong as NoNumber}
+use Rattle.number.specs.Number.{none, numberOf, valueOf}
+use Rattle.number.specs.declared.Number.the-variants.{Empty, Wrong as NoNumber}
 use Rattle.script.specs.declared.Words.{Words}
 use Rattle.script.specs.declared.Line.{Line}
 use Rattle.script.specs.declared.Call.{Call}

@@ -1,2 +1,3 @@
--- Laws of soundness, of the numbers, and of a service slot by its plan, for this crate's proofs and for callers.
+-- Soundness as facts, what the numbers say, the code's way through a slot, and worked examples.
 pub mod Laws
+pub mod Examples

@@ -1,6 +1,6 @@
 -- The calls: for every input the number, the values and the record after it (document 01, "Numbers given back").
 use Prim.Native.Nat.{ℕ, _+_}
-use mathlib.Core.Bool.{true, cond}
+use mathlib.Core.Bool.{cond}
 use lib.Dec.{eqb, leb}
 use Rattle.config.specs.declared.Setting.{Setting}
 use Rattle.config.specs.Setting.{settingOf}
@@ -10,7 +10,7 @@ use Rattle.queue.specs.declared.Kind.{Kind}
 use Rattle.queue.specs.declared.Kind.the-variants.{Read, Write}
 use Rattle.queue.specs.declared.Request.{Request}
 use Rattle.queue.specs.Places.{acceptOf}
-use Rattle.service.specs.declared.Report.the-variants.{Nothing}
+use Rattle.plan.specs.declared.Report.the-variants.{Nothing}
 use Rattle.sequencer.specs.Machine.{blankOf, machineOf, stepOf}
 use Rattle.sequencer.specs.Sound.{soundOf}
 use Rattle.sequencer.specs.declared.Machine.{Machine}
@@ -57,20 +57,18 @@ queuedRequest m kind address halfword =
       halfword = halfword;
     }
 
-unfoldable pub acceptedOf : Machine → Request → Requested
-acceptedOf m r =
+unfoldable pub enqueuedOf : Machine → Request → Requested
+enqueuedOf m r =
     record {
       number = 0;
       request = r .number;
       machine = record {
-        configured = true;
+        configured = m .configured;
         config = m .config;
         past = m .past;
-        stage = m .stage;
         counters = m .counters;
-        run = m .run;
+        control = m .control;
         queue = acceptOf (m .queue) r;
-        action = m .action;
         accepted = r .number;
       };
     }
@@ -78,7 +76,7 @@ acceptedOf m r =
 unfoldable pub requestOf : Machine → Kind → ℕ → ℕ → Requested
 requestOf m kind address halfword =
     cond (eqb (requestNumberOf m address) 0)
-    (acceptedOf m (queuedRequest m kind address halfword))
+    (enqueuedOf m (queuedRequest m kind address halfword))
     (record { number = requestNumberOf m address; request = 0; machine = m })
 
 -- the two calls; a read has no halfword

@@ -1,33 +1,26 @@
 // Owns the machine and the calls on it: configuration, the read request, the write request, the slot, and the backlog.
+use ages::Past;
 use command::Command;
 use config::Config;
-use config::Geometry;
 use config::Setting;
-use device::Attempt;
-use device::Past;
-use queue::Found;
+use plan::Action;
+use plan::Control;
+use plan::Report;
 use queue::Kind;
 use queue::Queue;
 use queue::Request;
 use refresh::Counters;
-use refresh::Level;
-use service::Action;
-use service::Plan;
-use service::Report;
-use startup::Stage;
-use startup::Trial;
+use service::Served;
 ghost use mathlib.Core.Path.{_≡_};
-ghost use mathlib.Core.Bool.{cond};
-ghost use Prim.Native.Nat.{_≤_, _<_};
-ghost use lib.ListN.{take};
+ghost use Prim.Native.Nat.{_<_};
 ghost use Rattle.config.specs.Accepted.{Shaped};
 ghost use Rattle.address.specs.Map.{capacityOf};
-ghost use Rattle.refresh.specs.Urgency.{runOf};
-ghost use Rattle.startup.specs.Trial.{byTrial};
-ghost use Rattle.service.specs.Actions.{isIdle};
-ghost use Rattle.service.specs.Plan.{queueAfter, countersAfter, carriedOut, putOff, byPlan};
-ghost use Rattle.sequencer.specs.Machine.{blankOf, machineOf, startedOf, servedOf, chosenOf, serviceOf, stepOf};
-ghost use Rattle.sequencer.specs.Sound.{rangedOf, stagedOf, insideOf, queuedOf, countingOf, fitOf, soundOf};
+ghost use Rattle.queue.specs.Places.{getOf};
+ghost use Rattle.plan.specs.Actions.{underWay};
+ghost use Rattle.service.specs.Serve.{servedOf};
+ghost use Rattle.sequencer.specs.Machine.{blankOf, machineOf, stepOf};
+ghost use Rattle.sequencer.specs.Steps.{countersOf, afterOf};
+ghost use Rattle.sequencer.specs.Sound.{fitOf, soundOf};
 ghost use Rattle.sequencer.specs.Calls.{
   configuredBy,
   configureOf,
@@ -36,7 +29,7 @@ ghost use Rattle.sequencer.specs.Calls.{
   roomNumberOf,
   requestNumberOf,
   queuedRequest,
-  acceptedOf,
+  enqueuedOf,
   requestOf,
   readRequestOf,
   writeRequestOf,
@@ -52,12 +45,9 @@ pub struct Machine {
     pub configured: bool,
     pub config: Config,
     pub past: Past,
-    pub stage: Stage,
     pub counters: Counters,
-    // Is a Must run on?
-    pub run: bool,
+    pub control: Control,
     pub queue: Queue,
-    pub action: Action,
     // How many requests have been accepted.
     pub accepted: u32,
 }
@@ -93,19 +83,21 @@ pub struct Reading {
 fn started_with(config: Config) -> Machine
     ensures { λ r. ⌜ r ≡ machineOf config ⌝ }
 {
-    let past = tracker::fresh();
-    let stage = startup::first_stage(config);
+    let past = ages::fresh();
     let counters = Counters::start(config.rr);
+    let action = choice::first_action(config);
+    let control = Control {
+        action,
+        must: false,
+    };
     let queue = Queue::empty();
     Machine {
         configured: true,
         config,
         past,
-        stage,
         counters,
-        run: false,
+        control,
         queue,
-        action: Action::Idle,
         accepted: 0,
     }
 }
@@ -126,102 +118,13 @@ fn configured_by(setting: Setting) -> Configured
     }
 }
 
-// The queue without the request that leaves, if one does.
-fn queue_after(q: Queue, leaves: Found) -> Queue
-    ensures { λ r. ⌜ r ≡ queueAfter q leaves ⌝ }
+// The slot of an action: the plan for its request, carried out.
+fn acted(config: Config, past: Past, queue: Queue, action: Action, bus: u16) -> Served
+    requires { ⌜ Shaped (config .geometry) ⌝ }
+    ensures { λ r. ⌜ r ≡ servedOf config past (getOf queue (underWay action)) action bus ⌝ }
 {
-    match leaves {
-        Found::At(i) => q.remove(i),
-        Found::Nothing => q,
-    }
-}
-
-// The counters, after a REFR if one was sent.
-fn counters_after(n: Counters, refreshes: bool) -> Counters
-    ensures { λ r. ⌜ r ≡ countersAfter n refreshes ⌝ }
-{
-    if refreshes {
-        return n.refreshed();
-    }
-    n
-}
-
-// Soundness, the test for number 9; docs/SOUNDNESS.md says it in words.
-
-// Are the counters in their ranges?
-fn counting(rr: u16, n: Counters) -> bool
-    ensures { λ r. ⌜ r ≡ countingOf rr n ⌝ }
-{
-    if n.interval < 1 {
-        return false;
-    }
-    if rr < n.interval {
-        return false;
-    }
-    if 15 < n.backlog {
-        return false;
-    }
-    true
-}
-
-// Is no action under way, and a count from 1 to `most`?
-fn ranged(idle: bool, n: u32, most: u32) -> bool
-    ensures { λ r. ⌜ r ≡ rangedOf idle n most ⌝ }
-{
-    if idle {
-        if n < 1 {
-            return false;
-        }
-        return n <= most;
-    }
-    false
-}
-
-// Is the stage's count in its range? Before service no action is under way; in service an MRS was sent.
-fn staged(rr: u16, moded: bool, idle: bool, stage: Stage) -> bool
-    ensures { λ r. ⌜ r ≡ stagedOf rr moded idle stage ⌝ }
-{
-    match stage {
-        Stage::Pause(n) => ranged(idle, n, 8 * rr as u32),
-        Stage::Close => idle,
-        Stage::Refresh(n) => ranged(idle, n as u32, 8),
-        Stage::Mode => idle,
-        Stage::Settle => idle,
-        Stage::Done => moded,
-    }
-}
-
-// Is the action's request queued?
-fn is_queued(count: usize, action: Action) -> bool
-    ensures { λ r. ⌜ r ≡ queuedOf count action ⌝ }
-{
-    match action {
-        Action::Idle => true,
-        Action::Access(i) => i < count,
-        Action::Data(i, _) => i < count,
-        Action::Turn => true,
-        Action::Close => true,
-        Action::Refresh => true,
-        Action::Recover(_) => true,
-    }
-}
-
-// Do the cells of the first `end` requests lie in the geometry?
-fn inside(g: Geometry, places: [Request; 8], end: usize) -> bool
-    requires { ⌜ Shaped g ⌝ }
-    requires { ⌜ end ≤ 8 ⌝ }
-    ensures { λ r. ⌜ r ≡ insideOf g (take end places) ⌝ }
-{
-    let mut i = 0;
-    while i < end {
-        let r = places[i];
-        let cell = r.cell;
-        if !address::holds(g, cell) {
-            return false;
-        }
-        i += 1;
-    }
-    true
+    let request = queue.get(choice::place(action));
+    service::serve(config, past, request, action, bus)
 }
 
 impl Machine {
@@ -237,23 +140,25 @@ impl Machine {
         ensures { λ r. ⌜ r ≡ blankOf ⌝ }
     {
         let config = config::none();
-        let past = tracker::fresh();
+        let past = ages::fresh();
         let counters = Counters::start(0);
+        let control = Control {
+            action: Action::Idle,
+            must: false,
+        };
         let queue = Queue::empty();
         Machine {
             configured: false,
             config,
             past,
-            stage: Stage::Done,
             counters,
-            run: false,
+            control,
             queue,
-            action: Action::Idle,
             accepted: 0,
         }
     }
 
-    // Is a configured record sound?
+    // Soundness, the test for number 9; docs/SOUNDNESS.md says it in words. Is a configured record sound?
     fn fit(self) -> bool
         ensures { λ r. ⌜ r ≡ fitOf self ⌝ }
     {
@@ -262,23 +167,16 @@ impl Machine {
             return false;
         }
         let counters = self.counters;
-        if !counting(self.config.rr, counters) {
+        if !counters.sound(config.rr) {
             return false;
         }
-        let count = self.queue.count;
-        if 8 < count {
+        let control = self.control;
+        let action = control.action;
+        if !choice::action_sound(config.rr, self.past.programmed, self.queue.count, action) {
             return false;
         }
-        let action = self.action;
-        if !is_queued(count, action) {
-            return false;
-        }
-        let stage = self.stage;
-        if !staged(config.rr, self.past.moded, service::is_idle(action), stage) {
-            return false;
-        }
-        let places = self.queue.places;
-        inside(config.geometry, places, count)
+        let queue = self.queue;
+        queue.sound(config.geometry)
     }
 
     // A blank machine is sound.
@@ -353,26 +251,13 @@ impl Machine {
 
     // The machine with one request more.
     fn accept(self, request: Request) -> Requested
-        ensures { λ r. ⌜ r ≡ acceptedOf self request ⌝ }
+        ensures { λ r. ⌜ r ≡ enqueuedOf self request ⌝ }
     {
-        let config = self.config;
-        let past = self.past;
-        let stage = self.stage;
-        let counters = self.counters;
         let before = self.queue;
         let queue = before.accept(request);
-        let action = self.action;
-        let machine = Machine {
-            configured: true,
-            config,
-            past,
-            stage,
-            counters,
-            run: self.run,
-            queue,
-            action,
-            accepted: request.number,
-        };
+        let mut machine = self;
+        machine.queue = queue;
+        machine.accepted = request.number;
         Requested {
             number: 0,
             request: request.number,
@@ -410,65 +295,42 @@ impl Machine {
         self.request(Kind::Write, address, halfword)
     }
 
-    // The machine after a slot of the initialisation.
-    fn started(self, trial: Trial) -> Slot
-        requires { ⌜ Shaped (self .config .geometry) ⌝ }
-        ensures { λ r. ⌜ r ≡ startedOf self (byTrial (self .config) (self .past) trial) ⌝ }
+    // The counters of this slot: the interval falls in a service slot.
+    fn ticked(self) -> Counters
+        ensures { λ r. ⌜ r ≡ countersOf self ⌝ }
     {
-        let config = self.config;
-        let before = self.past;
-        let wanted = trial.command;
-        let a = tracker::attempt(config, before, wanted);
-        let stage = startup::stage_after(a.sent, trial);
-        let past = a.past;
         let counters = self.counters;
-        let queue = self.queue;
-        let action = self.action;
-        let machine = Machine {
-            configured: true,
-            config,
-            past,
-            stage,
-            counters,
-            run: self.run,
-            queue,
-            action,
-            accepted: self.accepted,
-        };
-        let command = a.command;
-        Slot {
-            number: 0,
-            command,
-            report: Report::Nothing,
-            machine,
+        let control = self.control;
+        let action = control.action;
+        if choice::is_in_service(action) {
+            return counters.tick(self.config.rr);
         }
+        counters
     }
 
-    // A service slot whose plan is carried out, its command sent.
-    fn carried_out(self, ticked: Counters, run: bool, plan: Plan, a: Attempt) -> Slot
-        ensures { λ r. ⌜ r ≡ servedOf self run (carriedOut ticked (self .queue) plan a) ⌝ }
+    // After a slot: what it gave, its counters (`ticked`), and its action with the Must run flag (`control`).
+    fn after(self, ticked: Counters, control: Control, served: Served) -> Slot
+        requires { ⌜ ticked ≡ countersOf self ⌝ }
+        ensures { λ r. ⌜ r ≡ afterOf self (record { control = control; queue = self .queue }) served ⌝ }
     {
-        let config = self.config;
-        let past = a.past;
-        let stage = self.stage;
-        let counters = counters_after(ticked, plan.refreshes);
+        let outcome = served.outcome;
+        let past = served.past;
+        let counters = service::counters_after(ticked, outcome.refreshes);
+        let action = control.action;
         let before = self.queue;
-        let leaves = plan.leaves;
-        let queue = queue_after(before, leaves);
-        let action = plan.next;
-        let machine = Machine {
-            configured: true,
-            config,
-            past,
-            stage,
-            counters,
-            run,
-            queue,
-            action,
-            accepted: self.accepted,
+        let queue = service::queue_after(before, choice::place(action), outcome.leaves);
+        let next = outcome.action;
+        let control = Control {
+            action: next,
+            must: control.must,
         };
-        let command = a.command;
-        let report = plan.report;
+        let mut machine = self;
+        machine.past = past;
+        machine.counters = counters;
+        machine.control = control;
+        machine.queue = queue;
+        let command = served.command;
+        let report = outcome.report;
         Slot {
             number: 0,
             command,
@@ -477,112 +339,20 @@ impl Machine {
         }
     }
 
-    // A service slot whose plan is put off, its command not legal yet.
-    fn put_off(self, counters: Counters, run: bool, plan: Plan, a: Attempt) -> Slot
-        ensures { λ r. ⌜ r ≡ servedOf self run (putOff counters (self .queue) plan a) ⌝ }
-    {
-        let config = self.config;
-        let past = a.past;
-        let stage = self.stage;
-        let queue = self.queue;
-        let action = plan.here;
-        let machine = Machine {
-            configured: true,
-            config,
-            past,
-            stage,
-            counters,
-            run,
-            queue,
-            action,
-            accepted: self.accepted,
-        };
-        let command = a.command;
-        Slot {
-            number: 0,
-            command,
-            report: Report::Nothing,
-            machine,
-        }
-    }
-
-    // A service slot by its plan: its command is tried, and the plan carried out or put off. `run` is the Must run flag after it.
-    fn served(self, counters: Counters, run: bool, plan: Plan) -> Slot
-        requires { ⌜ Shaped (self .config .geometry) ⌝ }
-        ensures { λ r. ⌜ r ≡ servedOf self run (byPlan (self .config) (self .past) counters (self .queue) plan) ⌝ }
-    {
-        let config = self.config;
-        let before = self.past;
-        let wanted = plan.command;
-        let a = tracker::attempt(config, before, wanted);
-        if a.sent {
-            return self.carried_out(counters, run, plan, a);
-        }
-        self.put_off(counters, run, plan, a)
-    }
-
-    // The choice at a level.
-    fn chosen(self, level: Level) -> Action
-        ensures { λ r. ⌜ r ≡ chosenOf self level ⌝ }
-    {
-        let run = refresh::run_after(self.run, level);
-        let queue = self.queue;
-        let read = queue.oldest(Kind::Read);
-        let write = queue.oldest(Kind::Write);
-        let past = self.past;
-        let closed = tracker::all_closed(past);
-        service::choose(run, level, read, write, closed)
-    }
-
-    // The action of this slot: the one under way, or the choice.
-    fn next_action(self, level: Level) -> Action
-        ensures { λ r. ⌜ r ≡ cond (isIdle (self .action)) (chosenOf self level) (self .action) ⌝ }
-    {
-        let action = self.action;
-        if service::is_idle(action) {
-            return self.chosen(level);
-        }
-        action
-    }
-
-    // The Must run flag after this slot: it changes with a choice only.
-    fn next_run(self, level: Level) -> bool
-        ensures { λ r. ⌜ r ≡ cond (isIdle (self .action)) (runOf (self .run) level) (self .run) ⌝ }
-    {
-        let action = self.action;
-        if service::is_idle(action) {
-            return refresh::run_after(self.run, level);
-        }
-        self.run
-    }
-
-    // A service slot, after its counters.
-    fn service(self, counters: Counters, bus: u16) -> Slot
-        requires { ⌜ Shaped (self .config .geometry) ⌝ }
-        ensures { λ r. ⌜ r ≡ serviceOf self counters bus ⌝ }
-    {
-        let level = refresh::urgency(counters.backlog);
-        let action = self.next_action(level);
-        let config = self.config;
-        let past = self.past;
-        let queue = self.queue;
-        let plan = service::planned(config, past, queue, action, bus);
-        self.served(counters, self.next_run(level), plan)
-    }
-
-    // One slot of a sound machine that is configured.
+    // One slot of a sound machine that is configured: the counters, the choice if none is under way, the action's next command.
     fn step(self, bus: u16) -> Slot
         requires { ⌜ Shaped (self .config .geometry) ⌝ }
         ensures { λ r. ⌜ r ≡ stepOf self bus ⌝ }
     {
-        let stage = self.stage;
-        if startup::is_done(stage) {
-            let before = self.counters;
-            let counters = before.tick(self.config.rr);
-            return self.service(counters, bus);
-        }
+        let ticked = self.ticked();
         let config = self.config;
-        self.started(startup::next_trial(config, stage))
+        let past = self.past;
+        let before = self.control;
+        let queue = self.queue;
+        let control = choice::current(before, ticked.backlog, queue, past);
+        let action = control.action;
+        let served = acted(config, past, queue, action, bus);
+        self.after(ticked, control, served)
     }
 
     // One slot; `bus` is the halfword that the bus carries.

@@ -1,84 +1,33 @@
--- A slot by its plan is the slot that the rules fix: action by action, and by whether the command is legal.
-use Prim.Native.Nat.{ℕ}
+-- A NOP is always legal, so its plan is carried out.
+use Prim.Native.Nat.{ℕ, _-_}
 use mathlib.Core.Path.{_≡_, refl}
-use lib.Dec.{eqb, leb}
+use mathlib.Core.Bool.{Bool, true, false, cond}
+use lib.Dec.{leb}
 use Rattle.config.specs.declared.Config.{Config}
-use Rattle.command.specs.declared.Command.{Command}
-use Rattle.command.specs.declared.Command.the-variants.{Nop, Wrt, Refr}
-use Rattle.device.specs.declared.Past.{Past}
-use Rattle.device.specs.Rules.{legalOf}
-use Rattle.device.proofs.Agree.{by-test}
-use Rattle.device.specs.Ages.{byAges, bankOf, attemptOf, carriedOf}
-use Rattle.queue.specs.declared.Kind.{Kind}
-use Rattle.queue.specs.declared.Queue.{Queue}
+use Rattle.command.specs.declared.Command.the-variants.{Nop}
+use Rattle.device.specs.Rules.{requirements, legalOf, carriedOf}
+use Rattle.ages.specs.declared.Past.{Past}
+use Rattle.ages.specs.Ages.{sentOf, attemptOf}
+use Rattle.plan.specs.declared.Action.{Action}
+use Rattle.plan.specs.declared.Action.the-variants.{CasLatency}
+use Rattle.plan.specs.Plan.{outcomeOf, tries, rest, takenPlan, latencyPlan}
 use Rattle.queue.specs.declared.Request.{Request}
-use Rattle.queue.specs.Places.{getOf}
-use Rattle.refresh.specs.declared.Counters.{Counters}
-use Rattle.service.specs.declared.Action.{Action}
-use Rattle.service.specs.declared.Action.the-variants.{Idle, Access, Data, Turn, Close, Refresh, Recover}
-use Rattle.service.specs.Actions.{quiet, sendOf, readOf, writtenOf, writeOf, transferOf, accessOf, takenOf, dataOf, refreshOf, actOf}
-use Rattle.service.specs.Plan.{
-  plainOf,
-  restOf,
-  readPlan,
-  writePlan,
-  transferPlan,
-  accessPlan,
-  takenPlan,
-  dataPlan,
-  refreshPlan,
-  planOf,
-  queueAfter,
-  countersAfter,
-  carriedOut,
-  putOff,
-  byPlan,
-}
+use Rattle.service.specs.Serve.{carriedOut, performedOf, restedOf, takenOf, latencyOf}
 
-rest-acts : (c : Config) (p : Past) (n : Counters) (q : Queue) (next : Action) → byPlan c p n q (restOf next) ≡ quiet p n q Nop next
-unfolding byPlan carriedOut putOff attemptOf carriedOf legalOf restOf plainOf queueAfter countersAfter quiet
-rest-acts c p n q next = refl
+pub rest-performs : (c : Config) (p : Past) (a : Action) → restedOf (sentOf p Nop) a ≡ performedOf c p (rest a)
+unfolding restedOf performedOf carriedOut attemptOf carriedOf legalOf requirements rest tries outcomeOf
+rest-performs c p a = refl
 
-plain-acts : (c : Config) (p : Past) (n : Counters) (q : Queue) (k : Command) (here next : Action) → byPlan c p n q (plainOf k here next) ≡ sendOf c p n q k here next
-unfolding byPlan carriedOut putOff attemptOf carriedOf restOf plainOf queueAfter countersAfter quiet sendOf
-plain-acts c p n q k here next = by-test (legalOf c (byAges p) k) (λ e. simp e) (λ e. simp e)
+taken-performs : (c : Config) (p : Past) (r : Request) (bus : ℕ) → takenOf (sentOf p Nop) r bus ≡ performedOf c p (takenPlan r bus)
+unfolding takenOf takenPlan performedOf carriedOut attemptOf carriedOf legalOf requirements outcomeOf
+taken-performs c p r bus = refl
 
-write-acts : (c : Config) (p : Past) (n : Counters) (q : Queue) (i : ℕ) (r : Request) → byPlan c p n q (writePlan i r) ≡ writeOf c p n q i r
-unfolding byPlan carriedOut putOff attemptOf carriedOf restOf plainOf queueAfter countersAfter quiet writePlan writeOf writtenOf
-write-acts c p n q i r = by-test (legalOf c (byAges p) (Wrt (r .cell .bank) (r .cell .column) (r .halfword))) (λ e. simp e) (λ e. simp e)
-
-transfer-acts : (c : Config) (p : Past) (n : Counters) (q : Queue) (i : ℕ) (r : Request) (kind : Kind) → byPlan c p n q (transferPlan c i r kind) ≡ transferOf c p n q i r kind
-unfolding transferPlan transferOf readPlan readOf
-transfer-acts c p n q i r Kind.Read = plain-acts c p n q _ _ _
-transfer-acts c p n q i r Kind.Write = write-acts c p n q i r
-
-access-acts : (c : Config) (p : Past) (n : Counters) (q : Queue) (i : ℕ) → byPlan c p n q (accessPlan c p q i) ≡ accessOf c p n q i
-unfolding accessPlan accessOf
-access-acts c p n q i =
-    by-test (bankOf p (getOf q i .cell .bank .0) .opened)
-    (λ e. by-test (eqb (bankOf p (getOf q i .cell .bank .0) .row .0) (getOf q i .cell .row .0))
-    (λ f. rw (e, f) (transfer-acts c p n q i (getOf q i) (getOf q i .kind)))
-    (λ f. rw (e, f) (plain-acts c p n q _ _ _)))
-    (λ e. rw e (plain-acts c p n q _ _ _))
-
-taken-acts : (c : Config) (p : Past) (n : Counters) (q : Queue) (i bus : ℕ) → byPlan c p n q (takenPlan i (getOf q i .number) bus) ≡ takenOf p n q i bus
-unfolding byPlan carriedOut putOff attemptOf carriedOf legalOf takenPlan takenOf queueAfter countersAfter
-taken-acts c p n q i bus = refl
-
-data-acts : (c : Config) (p : Past) (n : Counters) (q : Queue) (i left bus : ℕ) → byPlan c p n q (dataPlan q i left bus) ≡ dataOf p n q i left bus
-unfolding dataPlan dataOf
-data-acts c p n q i left bus = by-test (leb left 1) (λ e. simp (e, taken-acts c p n q i bus)) (λ e. rw e (rest-acts c p n q _))
-
-refresh-acts : (c : Config) (p : Past) (n : Counters) (q : Queue) → byPlan c p n q (refreshPlan c) ≡ refreshOf c p n q
-unfolding byPlan carriedOut putOff attemptOf carriedOf restOf plainOf queueAfter countersAfter quiet refreshPlan refreshOf
-refresh-acts c p n q = by-test (legalOf c (byAges p) Refr) (λ e. simp e) (λ e. simp e)
-
-pub plan-acts : (c : Config) (p : Past) (n : Counters) (q : Queue) (a : Action) (bus : ℕ) → byPlan c p n q (planOf c p q a bus) ≡ actOf c p n q a bus
-unfolding planOf actOf
-plan-acts c p n q Idle bus = rest-acts c p n q _
-plan-acts c p n q (Access i) bus = access-acts c p n q i
-plan-acts c p n q (Data i left) bus = data-acts c p n q i left bus
-plan-acts c p n q Turn bus = rest-acts c p n q _
-plan-acts c p n q Close bus = plain-acts c p n q _ _ _
-plan-acts c p n q Refresh bus = refresh-acts c p n q
-plan-acts c p n q (Recover left) bus = rest-acts c p n q _
+pub latency-performs : (c : Config) (p : Past) (i left : ℕ) (r : Request) (bus : ℕ)
+    → latencyOf (sentOf p Nop) i left r bus ≡ performedOf c p (latencyPlan i left r bus)
+unfolding latencyOf latencyPlan
+latency-performs c p i left r bus = by-test (leb left 1)
+  where
+    by-test : (b : Bool) → cond b (takenOf (sentOf p Nop) r bus) (restedOf (sentOf p Nop) (CasLatency i (left - 1)))
+        ≡ performedOf c p (cond b (takenPlan r bus) (rest (CasLatency i (left - 1))))
+    by-test true = taken-performs c p r bus
+    by-test false = rest-performs c p (CasLatency i (left - 1))

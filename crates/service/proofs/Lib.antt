@@ -1,2 +1,2 @@
--- A slot by its plan is the slot that the rules fix.
+-- Laws of a plan that is carried out.
 pub mod Laws

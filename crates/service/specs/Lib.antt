@@ -1,5 +1,2 @@
--- Document 01, "A service slot".
-pub mod Choice
-pub mod Actions
-pub mod Plan
-pub mod Examples
+-- A slot's plan carried out on the past as it is kept.
+pub mod Serve

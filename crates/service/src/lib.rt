@@ -1,285 +1,285 @@
-// Owns a service slot's choice and actions (document 01, "A service slot"): rules 1 to 6, and the plan of a slot
-// for accesses, refreshes and reports.
+// Owns the code of a slot's plan (document 01, "Start" and "A service slot"; `plan` has the rules): the action's next command tried, and what follows.
+use ages::Attempt;
+use ages::Past;
 use command::Command;
 use config::Config;
-use device::Past;
-use queue::Found;
+use plan::Action;
+use plan::Outcome;
+use plan::Report;
 use queue::Kind;
 use queue::Queue;
 use queue::Request;
-use refresh::Level;
-ghost use Rattle.service.specs.Choice.{accessOr, needs, idleRefresh, fromRule5, fromRule3, choiceOf};
-ghost use Rattle.service.specs.Actions.{isIdle, recoveryOf};
-ghost use Rattle.service.specs.Plan.{
-  plainOf,
-  restOf,
+use refresh::Counters;
+ghost use mathlib.Core.Path.{_≡_};
+ghost use Prim.Native.Nat.{_-_};
+ghost use Rattle.config.specs.Accepted.{Shaped};
+ghost use Rattle.ages.specs.Ages.{rowAt, sentOf};
+ghost use Rattle.plan.specs.Plan.{
+  quietly,
+  afterPause,
+  afterInitRefresh,
+  cycleLeft,
   readPlan,
   writePlan,
   transferPlan,
   accessPlan,
-  takenPlan,
-  dataPlan,
   refreshPlan,
-  planOf,
+  queueAfter,
+  countersAfter,
 };
-ghost use Prim.Native.Nat.{_-_};
-ghost use mathlib.Core.Path.{_≡_};
+ghost use Rattle.service.specs.Serve.{carriedOut, performedOf, servedOf, restedOf, takenOf, latencyOf};
 
-// The action under way.
-pub enum Action {
-    // None.
-    Idle,
-    // The request at this place of the queue: PRE, ACT, or READ or WRT comes next.
-    Access(usize),
-    // The READ for the request at this place was sent: its halfword is on the bus in so many slots.
-    Data(usize, u8),
-    // The slot after a read's halfword.
-    Turn,
-    // A refresh: DEAC comes next.
-    Close,
-    // A refresh: REFR comes next.
-    Refresh,
-    // So many slots are left of a refresh.
-    Recover(u8),
-}
-
-// What a slot reports: a read with its number and halfword, or a write with its number.
-pub enum Report {
-    Nothing,
-    Read(u32, u16),
-    Write(u32),
-}
-
-// What a slot is to do: the command that it tries, and the action after it where that is not sent and where it is. Where it is sent, also
-// the slot's report, the place that a request leaves, and whether the backlog falls.
-pub struct Plan {
+// What a slot gives: the past after it, its command, and what follows.
+pub struct Served {
+    pub past: Past,
     pub command: Command,
-    pub here: Action,
-    pub next: Action,
-    pub report: Report,
-    pub leaves: Found,
-    pub refreshes: bool,
+    pub outcome: Outcome,
 }
 
-// The request found, or what a later rule chooses.
-fn access_or(found: Found, later: Action) -> Action
-    ensures { λ r. ⌜ r ≡ accessOr found later ⌝ }
-{
-    match found {
-        Found::At(i) => Action::Access(i),
-        Found::Nothing => later,
-    }
-}
+// What follows a slot.
 
-// Rule 3.
-fn needs(level: Level) -> bool
-    ensures { λ r. ⌜ r ≡ needs level ⌝ }
+// The next action alone.
+fn quietly(action: Action) -> Outcome
+    ensures { λ r. ⌜ r ≡ quietly action ⌝ }
 {
-    match level {
-        Level::Clear => false,
-        Level::May => false,
-        Level::Release => false,
-        Level::Need => true,
-        Level::Must => false,
-    }
-}
-
-// Rule 5, where `closed` says whether all banks are closed.
-fn idle_refresh(level: Level, closed: bool) -> bool
-    ensures { λ r. ⌜ r ≡ idleRefresh level closed ⌝ }
-{
-    match level {
-        Level::Clear => false,
-        Level::May => closed,
-        Level::Release => true,
-        Level::Need => false,
-        Level::Must => false,
-    }
-}
-
-// Rules 5 and 6.
-fn from_rule5(level: Level, closed: bool) -> Action
-    ensures { λ r. ⌜ r ≡ fromRule5 level closed ⌝ }
-{
-    if idle_refresh(level, closed) {
-        return Action::Close;
-    }
-    Action::Idle
-}
-
-// Rules 3 to 6.
-fn from_rule3(level: Level, write: Found, closed: bool) -> Action
-    ensures { λ r. ⌜ r ≡ fromRule3 level write closed ⌝ }
-{
-    if needs(level) {
-        return Action::Close;
-    }
-    access_or(write, from_rule5(level, closed))
-}
-
-// Rules 1 to 6, from the Must run as of this choice, the backlog's level, and the oldest unblocked read and write.
-pub fn choose(run: bool, level: Level, read: Found, write: Found, closed: bool) -> Action
-    ensures { λ r. ⌜ r ≡ choiceOf run level read write closed ⌝ }
-{
-    if run {
-        return Action::Close;
-    }
-    access_or(read, from_rule3(level, write, closed))
-}
-
-pub fn is_idle(action: Action) -> bool
-    ensures { λ r. ⌜ r ≡ isIdle action ⌝ }
-{
-    match action {
-        Action::Idle => true,
-        Action::Access(_) => false,
-        Action::Data(_, _) => false,
-        Action::Turn => false,
-        Action::Close => false,
-        Action::Refresh => false,
-        Action::Recover(_) => false,
-    }
-}
-
-// Tries k, and reports nothing.
-fn plain(k: Command, here: Action, next: Action) -> Plan
-    ensures { λ r. ⌜ r ≡ plainOf k here next ⌝ }
-{
-    Plan {
-        command: k,
-        here,
-        next,
+    Outcome {
+        action,
         report: Report::Nothing,
-        leaves: Found::Nothing,
+        leaves: false,
         refreshes: false,
     }
 }
 
-// A NOP, which is always sent.
-fn rest(next: Action) -> Plan
-    ensures { λ r. ⌜ r ≡ restOf next ⌝ }
+// The queue, without the request under way if it leaves.
+pub fn queue_after(queue: Queue, at: usize, leaves: bool) -> Queue
+    ensures { λ r. ⌜ r ≡ queueAfter queue at leaves ⌝ }
 {
-    plain(Command::Nop, next, next)
-}
-
-// The READ for the request r at place i.
-fn read(c: Config, i: usize, r: Request) -> Plan
-    ensures { λ e. ⌜ e ≡ readPlan c i r ⌝ }
-{
-    let bank = r.cell.bank;
-    let column = r.cell.column;
-    plain(
-        Command::Read(bank, column),
-        Action::Access(i),
-        Action::Data(i, c.latency),
-    )
-}
-
-// The WRT for the request r at place i.
-fn write(i: usize, r: Request) -> Plan
-    ensures { λ e. ⌜ e ≡ writePlan i r ⌝ }
-{
-    let bank = r.cell.bank;
-    let column = r.cell.column;
-    Plan {
-        command: Command::Wrt(bank, column, r.halfword),
-        here: Action::Access(i),
-        next: Action::Idle,
-        report: Report::Write(r.number),
-        leaves: Found::At(i),
-        refreshes: false,
+    if leaves {
+        return queue.remove(at);
     }
+    queue
 }
 
-// The READ or the WRT.
-fn transfer(c: Config, i: usize, r: Request, kind: Kind) -> Plan
-    ensures { λ e. ⌜ e ≡ transferPlan c i r kind ⌝ }
+// The counters, after a REFR that was owed if one was sent.
+pub fn counters_after(n: Counters, refreshes: bool) -> Counters
+    ensures { λ r. ⌜ r ≡ countersAfter n refreshes ⌝ }
 {
-    match kind {
-        Kind::Read => read(c, i, r),
-        Kind::Write => write(i, r),
+    if refreshes {
+        return n.refreshed();
     }
+    n
 }
 
-// The access's next command: PRE, ACT, or READ or WRT.
-fn access(c: Config, p: Past, q: Queue, i: usize) -> Plan
-    ensures { λ e. ⌜ e ≡ accessPlan c p q i ⌝ }
-{
-    let r = q.get(i);
-    let bank = r.cell.bank;
-    let row = r.cell.row;
-    let b = tracker::bank_at(p, bank);
-    let here = Action::Access(i);
-    if b.opened {
-        if b.row.0 == row.0 {
-            let kind = r.kind;
-            return transfer(c, i, r, kind);
-        }
-        return plain(Command::Pre(bank), here, here);
-    }
-    plain(Command::Act(bank, row), here, here)
-}
+// A slot. In what follows `next` is the past after a NOP.
 
-// The slot of a read's halfword.
-fn taken(i: usize, number: u32, bus: u16) -> Plan
-    ensures { λ e. ⌜ e ≡ takenPlan i number bus ⌝ }
+// A NOP.
+fn rest(next: Past, action: Action) -> Served
+    ensures { λ r. ⌜ r ≡ restedOf next action ⌝ }
 {
-    Plan {
+    let outcome = quietly(action);
+    Served {
+        past: next,
         command: Command::Nop,
-        here: Action::Turn,
-        next: Action::Turn,
-        report: Report::Read(number, bus),
-        leaves: Found::At(i),
-        refreshes: false,
+        outcome,
     }
 }
 
-// A slot after a READ.
-fn data_slot(q: Queue, i: usize, left: u8, bus: u16) -> Plan
-    ensures { λ e. ⌜ e ≡ dataPlan q i left bus ⌝ }
+// A command that was tried: what follows is `sent` if it was legal, and `stays` if it wasn't.
+fn carried_out(attempt: Attempt, sent: Outcome, stays: Action) -> Served
+    ensures { λ r. ⌜ r ≡ carriedOut attempt sent stays ⌝ }
 {
-    if left <= 1 {
-        return taken(i, q.get(i).number, bus);
+    let past = attempt.past;
+    let command = attempt.command;
+    if attempt.sent {
+        return Served {
+            past,
+            command,
+            outcome: sent,
+        };
     }
-    rest(Action::Data(i, left - 1))
+    let outcome = quietly(stays);
+    Served {
+        past,
+        command,
+        outcome,
+    }
+}
+
+// Nothing but the next action follows.
+fn tried(attempt: Attempt, stays: Action, next: Action) -> Served
+    ensures { λ r. ⌜ r ≡ carriedOut attempt (quietly next) stays ⌝ }
+{
+    carried_out(attempt, quietly(next), stays)
+}
+
+// The pause has so many slots left, this one included.
+fn after_pause(n: u32) -> Action
+    ensures { λ r. ⌜ r ≡ afterPause n ⌝ }
+{
+    if n <= 1 {
+        return Action::InitPrecharge;
+    }
+    Action::PowerUp(n - 1)
+}
+
+// The initialisation has so many REFR left, this one included.
+fn after_init_refresh(n: u8) -> Action
+    ensures { λ r. ⌜ r ≡ afterInitRefresh n ⌝ }
+{
+    if n <= 1 {
+        return Action::InitMode;
+    }
+    Action::InitRefresh(n - 1)
 }
 
 // What is left of a refresh after the first of so many slots.
-fn recovery(slots: u8) -> Action
-    ensures { λ r. ⌜ r ≡ recoveryOf (slots - 1) ⌝ }
+fn refresh_cycle(slots: u8) -> Action
+    ensures { λ r. ⌜ r ≡ cycleLeft (slots - 1) ⌝ }
 {
     if slots <= 1 {
         return Action::Idle;
     }
-    Action::Recover(slots - 1)
+    Action::RefreshCycle(slots - 1)
 }
 
-// The REFR.
-fn refresh_slot(c: Config) -> Plan
-    ensures { λ e. ⌜ e ≡ refreshPlan c ⌝ }
+// The slot of a read's halfword.
+fn taken(next: Past, r: Request, bus: u16) -> Served
+    ensures { λ e. ⌜ e ≡ takenOf next r bus ⌝ }
 {
-    let next = recovery(c.rfc);
-    Plan {
-        command: Command::Refr,
-        here: Action::Refresh,
-        next,
-        report: Report::Nothing,
-        leaves: Found::Nothing,
-        refreshes: true,
+    let outcome = Outcome {
+        action: Action::Turnaround,
+        report: Report::Read(r.number, bus),
+        leaves: true,
+        refreshes: false,
+    };
+    Served {
+        past: next,
+        command: Command::Nop,
+        outcome,
     }
 }
 
-// What a slot is to do for an action; `bus` is the halfword that the bus carries in it.
-pub fn planned(c: Config, p: Past, q: Queue, a: Action, bus: u16) -> Plan
-    ensures { λ r. ⌜ r ≡ planOf c p q a bus ⌝ }
+// A slot after a READ.
+fn latency(next: Past, i: usize, left: u8, r: Request, bus: u16) -> Served
+    ensures { λ e. ⌜ e ≡ latencyOf next i left r bus ⌝ }
 {
-    match a {
-        Action::Idle => rest(Action::Idle),
-        Action::Access(i) => access(c, p, q, i),
-        Action::Data(i, left) => data_slot(q, i, left, bus),
-        Action::Turn => rest(Action::Idle),
-        Action::Close => plain(Command::Deac, Action::Close, Action::Refresh),
-        Action::Refresh => refresh_slot(c),
-        Action::Recover(left) => rest(recovery(left)),
+    if left <= 1 {
+        return taken(next, r, bus);
+    }
+    rest(next, Action::CasLatency(i, left - 1))
+}
+
+// The READ for the request r at place i.
+fn read(c: Config, p: Past, next: Past, i: usize, r: Request) -> Served
+    requires { ⌜ Shaped (c .geometry) ⌝ }
+    requires { ⌜ next ≡ sentOf p Command.Nop ⌝ }
+    ensures { λ e. ⌜ e ≡ performedOf c p (readPlan c i r) ⌝ }
+{
+    let bank = r.cell.bank;
+    let column = r.cell.column;
+    let attempt = attempts::try_read(c, p, next, bank, column);
+    tried(attempt, Action::Access(i), Action::CasLatency(i, c.latency))
+}
+
+// The WRT for the request r at place i.
+fn write(c: Config, p: Past, next: Past, i: usize, r: Request) -> Served
+    requires { ⌜ Shaped (c .geometry) ⌝ }
+    requires { ⌜ next ≡ sentOf p Command.Nop ⌝ }
+    ensures { λ e. ⌜ e ≡ performedOf c p (writePlan i r) ⌝ }
+{
+    let bank = r.cell.bank;
+    let column = r.cell.column;
+    let attempt = attempts::try_wrt(c, p, next, bank, column, r.halfword);
+    let sent = Outcome {
+        action: Action::Idle,
+        report: Report::Write(r.number),
+        leaves: true,
+        refreshes: false,
+    };
+    carried_out(attempt, sent, Action::Access(i))
+}
+
+// The READ or the WRT.
+fn transfer(c: Config, p: Past, next: Past, i: usize, r: Request, kind: Kind) -> Served
+    requires { ⌜ Shaped (c .geometry) ⌝ }
+    requires { ⌜ next ≡ sentOf p Command.Nop ⌝ }
+    ensures { λ e. ⌜ e ≡ performedOf c p (transferPlan c i r kind) ⌝ }
+{
+    match kind {
+        Kind::Read => read(c, p, next, i, r),
+        Kind::Write => write(c, p, next, i, r),
+    }
+}
+
+// The access's next command: PRE, ACT, or READ or WRT.
+fn access(c: Config, p: Past, next: Past, i: usize, r: Request) -> Served
+    requires { ⌜ Shaped (c .geometry) ⌝ }
+    requires { ⌜ next ≡ sentOf p Command.Nop ⌝ }
+    ensures { λ e. ⌜ e ≡ performedOf c p (accessPlan c (rowAt p (r .cell .bank .0)) i r) ⌝ }
+{
+    let bank = r.cell.bank;
+    let row = r.cell.row;
+    let here = Action::Access(i);
+    if ages::is_open(p, bank) {
+        let opened = ages::row_in(p, bank);
+        if opened.0 == row.0 {
+            let kind = r.kind;
+            return transfer(c, p, next, i, r, kind);
+        }
+        return tried(attempts::try_pre(c, p, next, bank), here, here);
+    }
+    tried(attempts::try_act(c, p, next, bank, row), here, here)
+}
+
+// The REFR of a refresh.
+fn refresh_slot(c: Config, p: Past, next: Past) -> Served
+    requires { ⌜ next ≡ sentOf p Command.Nop ⌝ }
+    ensures { λ e. ⌜ e ≡ performedOf c p (refreshPlan c) ⌝ }
+{
+    let attempt = attempts::try_refr(c, p, next);
+    let sent = Outcome {
+        action: refresh_cycle(c.rfc),
+        report: Report::Nothing,
+        leaves: false,
+        refreshes: true,
+    };
+    carried_out(attempt, sent, Action::Refresh)
+}
+
+// The slot of an action; r is the request under way, and `bus` the halfword that the bus carries.
+pub fn serve(c: Config, p: Past, r: Request, action: Action, bus: u16) -> Served
+    requires { ⌜ Shaped (c .geometry) ⌝ }
+    ensures { λ e. ⌜ e ≡ servedOf c p r action bus ⌝ }
+{
+    let next = ages::rested(p);
+    match action {
+        Action::PowerUp(n) => rest(next, after_pause(n)),
+        Action::InitPrecharge => tried(
+            attempts::try_deac(c, p, next),
+            Action::InitPrecharge,
+            Action::InitRefresh(8),
+        ),
+        Action::InitRefresh(n) => tried(
+            attempts::try_refr(c, p, next),
+            Action::InitRefresh(n),
+            after_init_refresh(n),
+        ),
+        Action::InitMode => tried(
+            attempts::try_mrs(c, p, next, 16 * (c.latency as u16)),
+            Action::InitMode,
+            Action::InitSettle,
+        ),
+        Action::InitSettle => rest(next, Action::Idle),
+        Action::Idle => rest(next, Action::Idle),
+        Action::Access(i) => access(c, p, next, i, r),
+        Action::CasLatency(i, left) => latency(next, i, left, r, bus),
+        Action::Turnaround => rest(next, Action::Idle),
+        Action::PrechargeAll => tried(
+            attempts::try_deac(c, p, next),
+            Action::PrechargeAll,
+            Action::Refresh,
+        ),
+        Action::Refresh => refresh_slot(c, p, next),
+        Action::RefreshCycle(left) => rest(next, refresh_cycle(left)),
     }
 }

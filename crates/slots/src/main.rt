@@ -2,8 +2,8 @@
 // write and a read of address 0 queued before the first slot.
 use command::Command;
 use libc::STDOUT_FILENO;
+use plan::Report;
 use sequencer::Machine;
-use service::Report;
 
 // The halfword that is written, and that the SDRAM gives back.
 const HALFWORD: u16 = 7;

@@ -1,2 +1,3 @@
 -- Laws of a text, for this crate's proofs.
 pub mod Laws
+pub mod Examples

@@ -1,3 +1,2 @@
 -- A text, piece by piece.
 pub mod Spelling
-pub mod Examples

@@ -4,7 +4,7 @@ use native.Mathlib.Nat.{mod-lt}
 use native.Mathlib.Omega.{arith}
 use lib.Pow.{pow-pos, pow-mono}
 use borrow.Author.Needs.{needs}
-use Rattle.config.specs.Words.{bits, fieldOf}
+use Rattle.words.specs.Words.{bits, fieldOf}
 use Rattle.config.proofs.slots.Statement.{statement}
 use Rattle.config.proofs.slots.Tie as tie
 

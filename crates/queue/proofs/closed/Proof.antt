@@ -4,7 +4,7 @@ use mathlib.Core.Path.{_≡_, sym}
 use native.Mathlib.Omega.{arith}
 use lib.ListN.{length}
 use borrow.Author.Needs.{needs}
-use Rattle.queue.specs.Places.{blankOf}
+use Rattle.queue.specs.Places.{noRequest}
 use Rattle.queue.proofs.Walks.{moving, moving-start, moving-step, moving-end}
 use Rattle.queue.proofs.closed.Statement.{statement}
 use Rattle.queue.proofs.closed.Tie as tie
@@ -61,7 +61,7 @@ returns c =
     let l = c .before .before .loop in
     let e = eight a in
     let seven : l .i ≡ 7 = omega arith in
-    rw (l .inv .2, c .blank .ensures, seven) (moving-end (a .args .places) (a .args .at) 7 blankOf (omega arith) (sym e))
+    rw (l .inv .2, c .blank .ensures, seven) (moving-end (a .args .places) (a .args .at) 7 noRequest (omega arith) (sym e))
 
 pub closed-spec : {M : Type 1} → statement M
 closed-spec =

@@ -7,7 +7,7 @@ use native.Mathlib.Omega.{arith}
 use lib.ListN.{length, getD, take, drop}
 use borrow.Author.Needs.{needs}
 use borrow.Author.Tests.{eq-eqb, ne-eqb}
-use Rattle.queue.specs.Places.{blankOf}
+use Rattle.queue.specs.Places.{noRequest}
 use Rattle.queue.specs.Oldest.{sharedBy}
 use Rattle.address.specs.Map.{blockOf}
 use Rattle.queue.proofs.Walks.{shared-step, shared-end}
@@ -24,7 +24,7 @@ eight : (c : tie.Start Inv-loop μ-loop) → length (c .args .t1) ≡ 8
 eight c = search needs
 
 step : (c : tie.In-loop Inv-loop μ-loop) → sharedBy (c .before .before .args .wanted) (take (c .before .before .args .end) (c .before .before .args .t1))
-    ≡ eqb (blockOf (getD (c .before .before .args .t1) (c .before .loop .i) blankOf .address)) (c .before .before .args .wanted)
+    ≡ eqb (blockOf (getD (c .before .before .args .t1) (c .before .loop .i) noRequest .address)) (c .before .before .args .wanted)
     || sharedBy (c .before .before .args .wanted) (drop (c .before .loop .i + 1) (take (c .before .before .args .end) (c .before .before .args .t1)))
 step c =
     let h : c .before .before .args .end ≤ length (c .before .before .args .t1) = rw (eight (c .before .before)) (c .before .before .pre) in

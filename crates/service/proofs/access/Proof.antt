@@ -1,46 +1,56 @@
--- The request, its bank's past and the two tests are the definition's.
+-- The bank's open row and the two tests are the definition's.
 use borrow.Author.Needs.{needs}
 use Rattle.service.proofs.access.Statement.{statement}
 use Rattle.service.proofs.access.Tie as tie
-use Rattle.service.specs.Plan.{accessPlan}
+use Rattle.ages.specs.Ages.{rowAt}
+use Rattle.service.specs.Serve.{performedOf}
+use Rattle.plan.specs.Plan.{tries, accessPlan}
 use borrow.Author.Tests.{eq-eqb, ne-eqb}
 
-get-requires : tie.Need-get-requires
-get-requires c κs = search needs
+is-open-requires : tie.Need-is-open-requires
+is-open-requires c κs = search needs
 
-bank-at-requires : tie.Need-bank-at-requires
-bank-at-requires c κs = search needs
+row-in-requires : tie.Need-row-in-requires
+row-in-requires c κs = search needs
 
 transfer-requires : tie.Need-transfer-requires
 transfer-requires c κs = search needs
 
 returns : tie.Need-returns
-unfolding accessPlan
-returns c = simp (← c .before .before .before .before .before .before .before .before .get .ensures, ← c .before .before .before .before .before .bank-at .ensures, c .before .before .before .before .if1 .taken, eq-eqb _ _ (c .before .if2 .taken), ← c .transfer .ensures)
+unfolding accessPlan rowAt
+returns c = simp (← c .before .before .before .before .before .before .is-open .ensures, c .before .before .before .before .before .if1 .taken, ← c .before .before .before .before .row-in .ensures, eq-eqb _ _ (c .before .if2 .taken), ← c .transfer .ensures)
 
-plain-requires : tie.Need-plain-requires
-plain-requires c κs = search needs
+try-pre-requires : tie.Need-try-pre-requires
+try-pre-requires c κs = search needs
+
+tried-requires : tie.Need-tried-requires
+tried-requires c κs = search needs
 
 returns-2 : tie.Need-returns-2
-unfolding accessPlan
-returns-2 c = simp (← c .before .before .before .before .before .before .before .before .get .ensures, ← c .before .before .before .before .before .bank-at .ensures, c .before .before .before .before .if1 .taken, ne-eqb _ _ (c .before .if2 .left), ← c .plain .ensures)
+unfolding performedOf accessPlan rowAt tries
+returns-2 c = simp (← c .before .before .before .before .before .before .before .is-open .ensures, c .before .before .before .before .before .before .if1 .taken, ← c .before .before .before .before .before .row-in .ensures, ne-eqb _ _ (c .before .before .if2 .left), ← c .before .try-pre .ensures, ← c .tried .ensures)
 
-plain-requires-2 : tie.Need-plain-requires-2
-plain-requires-2 c κs = search needs
+try-act-requires : tie.Need-try-act-requires
+try-act-requires c κs = search needs
+
+tried-requires-2 : tie.Need-tried-requires-2
+tried-requires-2 c κs = search needs
 
 returns-3 : tie.Need-returns-3
-unfolding accessPlan
-returns-3 c = simp (← c .before .before .before .before .before .get .ensures, ← c .before .before .bank-at .ensures, c .before .if1 .left, ← c .plain2 .ensures)
+unfolding performedOf accessPlan rowAt tries
+returns-3 c = simp (← c .before .before .before .is-open .ensures, c .before .before .if1 .left, ← c .before .try-act .ensures, ← c .tried2 .ensures)
 
 pub access-spec : {M : Type 1} → statement M
 access-spec =
     tie.close
     (tie.spec
-    get-requires
-    bank-at-requires
+    is-open-requires
+    row-in-requires
     transfer-requires
     returns
-    plain-requires
+    try-pre-requires
+    tried-requires
     returns-2
-    plain-requires-2
+    try-act-requires
+    tried-requires-2
     returns-3)

@@ -1,15 +1,15 @@
--- A plan that tries NOP.
+-- Field by field.
 use borrow.Author.Needs.{needs}
 use Rattle.service.proofs.rest.Statement.{statement}
 use Rattle.service.proofs.rest.Tie as tie
-use Rattle.service.specs.Plan.{restOf}
+use Rattle.service.specs.Serve.{restedOf}
 
-plain-requires : tie.Need-plain-requires
-plain-requires c κs = search needs
+quietly-requires : tie.Need-quietly-requires
+quietly-requires c κs = search needs
 
 returns : tie.Need-returns
-unfolding restOf
-returns c = simp (← c .plain .ensures)
+unfolding restedOf
+returns c = simp (← c .quietly .ensures)
 
 pub rest-spec : {M : Type 1} → statement M
-rest-spec = tie.close (tie.spec plain-requires returns)
+rest-spec = tie.close (tie.spec quietly-requires returns)

@@ -2,10 +2,11 @@
 use borrow.Author.Needs.{needs}
 use Rattle.service.proofs.taken.Statement.{statement}
 use Rattle.service.proofs.taken.Tie as tie
-use Rattle.service.specs.Plan.{takenPlan}
+use Rattle.plan.specs.Plan.{takenPlan}
+use Rattle.service.specs.Serve.{takenOf}
 
 returns : tie.Need-returns
-unfolding takenPlan
+unfolding takenOf takenPlan
 returns c = search needs
 
 pub taken-spec : {M : Type 1} → statement M

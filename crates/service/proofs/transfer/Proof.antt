@@ -2,7 +2,7 @@
 use borrow.Author.Needs.{needs}
 use Rattle.service.proofs.transfer.Statement.{statement}
 use Rattle.service.proofs.transfer.Tie as tie
-use Rattle.service.specs.Plan.{transferPlan}
+use Rattle.plan.specs.Plan.{transferPlan}
 
 enum-told : tie.Need-enum-told
 enum-told c = search needs

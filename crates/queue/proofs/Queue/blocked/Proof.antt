@@ -7,7 +7,7 @@ use lib.ListN.{length}
 use lib.Seq.{getD-take, take-take}
 use borrow.Author.Needs.{needs}
 use borrow.Author.Tests.{le-ltb, lt-ltb}
-use Rattle.queue.specs.Places.{blankOf, heldOf}
+use Rattle.queue.specs.Places.{noRequest, heldOf}
 use Rattle.queue.specs.Oldest.{blockedOf}
 use Rattle.queue.proofs.Walks.{length-mapped, queued}
 use Rattle.queue.proofs.Queue.blocked.Statement.{statement}
@@ -51,7 +51,7 @@ returns-2 c =
     simp (
       ← e .before .held .ensures,
       lt-ltb _ _ (e .if1 .left),
-      getD-take (q .count) (q .places) _ blankOf h,
+      getD-take (q .count) (q .places) _ noRequest h,
       take-take _ (q .count) (q .places) (le-of-lt h),
       ← c .before .block .ensures,
       ← c .shared .ensures,

@@ -5,7 +5,7 @@ use native.Mathlib.Omega.{arith}
 use lib.ListN.{length, getD}
 use lib.Seq.{getD-take}
 use borrow.Author.Needs.{needs}
-use Rattle.queue.specs.Places.{blankOf, heldOf}
+use Rattle.queue.specs.Places.{noRequest, heldOf}
 use Rattle.queue.specs.Oldest.{readyOf}
 use Rattle.queue.proofs.Walks.{length-mapped, queued}
 use Rattle.queue.proofs.Queue.ready.Statement.{statement}
@@ -17,8 +17,8 @@ eight c = search length-mapped
 below : (c : tie.Start) → (c .args .at < c .args .self .count) × (c .args .at < 8)
 below c = queued (c .args .self .count) (c .args .self .places) (c .args .at) (c .pre) (eight c)
 
-kept : (c : tie.Start) → getD (heldOf (c .args .self)) (c .args .at) blankOf ≡ getD (c .args .self .places) (c .args .at) blankOf
-kept c = getD-take (c .args .self .count) (c .args .self .places) (c .args .at) blankOf (below c .0)
+kept : (c : tie.Start) → getD (heldOf (c .args .self)) (c .args .at) noRequest ≡ getD (c .args .self .places) (c .args .at) noRequest
+kept c = getD-take (c .args .self .count) (c .args .self .places) (c .args .at) noRequest (below c .0)
 
 mul-r : tie.Need-mul-r
 mul-r c = omega (arith, below (c .before) .1)

@@ -1,0 +1,110 @@
+-- What the sequencer keeps of the past, and what the rules see of it. An age is in slots, as the next slot sees it.
+use Prim.Native.Nat.{ℕ, _+_}
+use mathlib.Core.Bool.{Bool, true, false, cond}
+use mathlib.Core.List.{List, [], _∷_}
+use mathlib.Core.Option.{Option, none, some}
+use lib.Dec.{leb, ltb}
+use lib.ListN.{getD, replicate}
+use Rattle.address.specs.declared.Row.{Row}
+use Rattle.config.specs.declared.Config.{Config}
+use Rattle.command.specs.declared.Command.{Command}
+use Rattle.device.specs.View.{
+  View,
+  Distance,
+  refreshCycle,
+  modeRegister,
+  readToWrite,
+  anyPrecharge,
+  rowPrecharge,
+  rowCycle,
+  rowToRow,
+  rowToColumn,
+  rowActive,
+  writeRecovery,
+  slotsOf,
+  starts,
+  rowOf,
+}
+use Rattle.device.specs.Rules.{legalOf, carriedOf}
+use Rattle.ages.specs.declared.Past.{Past}
+use Rattle.ages.specs.declared.Attempt.{Attempt}
+
+-- the largest distance, and where an age stops; a command never sent has this age
+abbrev pub cap : ℕ
+cap = 32
+
+abbrev pub firstRow : Row
+firstRow = record { 0 = 0 }
+
+unfoldable pub freshOf : Past
+freshOf = record { ages = replicate 16 cap; opened = replicate 4 false; rows = replicate 4 firstRow; programmed = false }
+
+-- the place of the age that a distance is read off: ACT of the four banks, PRE or DEAC of them, WRT to them, REFR, MRS, any PRE or DEAC, READ
+abbrev pub placeOf : Distance → ℕ
+placeOf (rowCycle b) = b
+placeOf (rowToRow b) = b
+placeOf (rowToColumn b) = b
+placeOf (rowActive b) = b
+placeOf (rowPrecharge b) = 4 + b
+placeOf (writeRecovery b) = 8 + b
+placeOf refreshCycle = 12
+placeOf modeRegister = 13
+placeOf anyPrecharge = 14
+placeOf readToWrite = 15
+
+abbrev pub ageOf : Past → Distance → ℕ
+ageOf p d = getD (p .ages) (placeOf d) 0
+
+-- is a bank open, and which row was opened in it last? One that a device cannot have is closed.
+unfoldable pub openedOf : Past → ℕ → Bool
+openedOf p b = cond (ltb b 4) (getD (p .opened) b false) false
+
+unfoldable pub rowIn : Past → ℕ → Row
+rowIn p b = cond (ltb b 4) (getD (p .rows) b firstRow) firstRow
+
+-- the open row
+unfoldable pub rowAt : Past → ℕ → Option Row
+rowAt p b = cond (openedOf p b) (some (rowIn p b)) none
+
+-- the view of the past by ages
+abbrev pub byAges : Config → Past → View
+byAges c p = record { programmed = p .programmed; row = rowAt p; kept = λ d. leb (slotsOf c d) (ageOf p d) }
+
+-- an age after a slot: 1 where the slot's command starts its distances, otherwise one slot older, up to the cap
+unfoldable pub agedOf : Bool → ℕ → ℕ
+agedOf started a = cond started 1 (cond (leb cap a) cap (a + 1))
+
+-- all ages after the slot's command k
+unfoldable pub agesAfter : List ℕ → Command → List ℕ
+agesAfter a k =
+    at 0 (rowCycle 0) ∷ at 1 (rowCycle 1) ∷ at 2 (rowCycle 2) ∷ at 3 (rowCycle 3)
+    ∷ at 4 (rowPrecharge 0) ∷ at 5 (rowPrecharge 1) ∷ at 6 (rowPrecharge 2) ∷ at 7 (rowPrecharge 3)
+    ∷ at 8 (writeRecovery 0) ∷ at 9 (writeRecovery 1) ∷ at 10 (writeRecovery 2) ∷ at 11 (writeRecovery 3)
+    ∷ at 12 refreshCycle ∷ at 13 modeRegister ∷ at 14 anyPrecharge ∷ at 15 readToWrite
+    ∷ []
+  where
+    at : ℕ → Distance → ℕ
+    at i d = agedOf (starts d k) (getD a i 0)
+
+-- the open flag of bank b, and its row, after the slot's command k: ACT opens, PRE and DEAC close
+abbrev pub openAfter : List Bool → Command → ℕ → Bool
+openAfter o k b = cond (starts (rowCycle b) k) true (cond (starts (rowPrecharge b) k) false (getD o b false))
+
+abbrev pub rowAfter : List Row → Command → ℕ → Row
+rowAfter r k b = cond (starts (rowCycle b) k) (rowOf k) (getD r b firstRow)
+
+-- the past after the slot's command k, that was sent
+unfoldable pub sentOf : Past → Command → Past
+sentOf p k =
+    record {
+      ages = agesAfter (p .ages) k;
+      opened = openAfter (p .opened) k 0 ∷ openAfter (p .opened) k 1 ∷ openAfter (p .opened) k 2 ∷ openAfter (p .opened) k 3 ∷ [];
+      rows = rowAfter (p .rows) k 0 ∷ rowAfter (p .rows) k 1 ∷ rowAfter (p .rows) k 2 ∷ rowAfter (p .rows) k 3 ∷ [];
+      programmed = cond (starts modeRegister k) true (p .programmed);
+    }
+
+-- a command tried in a slot: was it legal, the slot's command, and the past after it
+unfoldable pub attemptOf : Config → Past → Command → Attempt
+attemptOf c p k =
+    let carried : Command = carriedOf c (byAges c p) k in
+    record { sent = legalOf c (byAges c p) k; command = carried; past = sentOf p carried }

@@ -1,0 +1,2 @@
+-- The past commands as ages.
+pub mod Ages

@@ -1,0 +1,2 @@
+-- Worked examples of the lines.
+pub mod Examples

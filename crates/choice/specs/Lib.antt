@@ -1,0 +1,2 @@
+-- How the code goes through the rules.
+pub mod Rules

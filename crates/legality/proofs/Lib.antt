@@ -1,0 +1,2 @@
+-- What makes each command legal, as the code tests it.
+pub mod Hold

@@ -1,0 +1,24 @@
+-- R1's word first; the rest of MRS is REFR's.
+use borrow.Author.Needs.{needs}
+use Rattle.legality.proofs.mrs_legal.Statement.{statement}
+use Rattle.legality.proofs.mrs_legal.Tie as tie
+use Rattle.legality.proofs.Hold.{mrs-is}
+use borrow.Author.Tests.{eq-eqb, ne-eqb}
+
+cast-if1 : tie.Need-cast-if1
+cast-if1 c = search needs
+
+mul-if1 : tie.Need-mul-if1
+mul-if1 c = search needs
+
+returns : tie.Need-returns
+returns c = rw mrs-is (simp (ne-eqb _ _ (c .if1 .taken)))
+
+refr-legal-requires : tie.Need-refr-legal-requires
+refr-legal-requires c κs = search needs
+
+returns-2 : tie.Need-returns-2
+returns-2 c = rw mrs-is (simp (eq-eqb _ _ (c .before .if1 .left), ← c .refr-legal .ensures))
+
+pub mrs-legal-spec : {M : Type 1} → statement M
+mrs-legal-spec = tie.close (tie.spec cast-if1 mul-if1 returns refr-legal-requires returns-2)

@@ -1,0 +1,2 @@
+-- How the code tests a command.
+pub mod Settled

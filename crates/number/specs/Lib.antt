@@ -1,0 +1,2 @@
+-- REPLAY.md, "Script": its numbers.
+pub mod Number

@@ -1,0 +1,2 @@
+-- Document 01, "Register words".
+pub mod Words
