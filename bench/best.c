@@ -12,6 +12,9 @@
 #define SLOTS 10000000u
 #endif
 
+/* Is the backlog read after each slot? */
+#define READING 0
+
 /* CAP is above the longest span that is tested, tRFC's 32. */
 enum { CAP = 33, PLACES = 8, BANKS = 4 };
 
@@ -232,6 +235,12 @@ static int request(Machine *m, bool write, uint32_t address, uint16_t halfword, 
     return 0;
 }
 
+static int backlog(const Machine *m, uint32_t *owed)
+{
+    *owed = m->backlog;
+    return 0;
+}
+
 static void configure(Machine *m)
 {
     *m = (Machine){ .columns = COLUMNS, .bank_bits = BANK_BITS, .rows = ROWS, .cl = CL, .rfc = RFC, .rp = RP, .rcd = RCD, .wr = WR, .ras = RAS,
@@ -247,7 +256,7 @@ int main(void)
 {
     static Machine m;
     configure(&m);
-    uint32_t x = 2463534242u, h = 1;
+    uint32_t x = 2463534242u, h = 1, owed = 0;
     for (uint32_t n = 0; n < SLOTS; n++) {
         x = shuffle(x);
         if (x % 8 == 0) {
@@ -263,6 +272,10 @@ int main(void)
         h = mix(h, k.halfword);
         h = mix(h, (uint32_t)r.kind * 65536u + r.halfword);
         h = mix(h, r.number);
+        if (READING) {
+            int said = backlog(&m, &owed);
+            h = mix(mix(h, (uint32_t)said), owed);
+        }
     }
     printf("slots %u accepted %u digest %u\n", SLOTS, m.accepted, h);
     return 0;

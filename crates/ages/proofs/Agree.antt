@@ -19,8 +19,8 @@ use Rattle.device.proofs.Tests.{by-test, four-banks}
 use Rattle.device.proofs.Alike.{Known, Alike, legal-same}
 use Rattle.device.proofs.Every.{Falling}
 use Rattle.ages.specs.declared.Past.{Past}
-use Rattle.ages.specs.Ages.{cap, freshOf, ageOf, openedOf, rowIn, rowAt, byAges, sentOf, attemptOf}
-use Rattle.ages.proofs.Slot.{Aged, sent-age, sent-row, starts-nop, aged-sent, aged-fresh, fresh-age, reached}
+use Rattle.ages.specs.Ages.{cap, freshOf, ageOf, openedOf, rowIn, rowAt, byAges, sentOf}
+use Rattle.ages.proofs.Slot.{Aged, sent-age, sent-row, starts-nop, aged-sent, aged-fresh, fresh-age, reached, triedOf}
 
 -- an age beside the slot of the last command that started it
 abbrev Stands : ℕ → Option ℕ → ℕ → Type 0
@@ -118,8 +118,8 @@ agrees-slot {p} {l} a k g w = record {
 }
 
 -- a legal command is sent, and any other counts as not sent, on both sides
-pub agrees-step : {c : Config} {p : Past} {l : Log} → Accepted c → Agrees p l → (k : Command) → Agrees (attemptOf c p k .past) (fed c l k)
-unfolding attemptOf carriedOf fed
+pub agrees-step : {c : Config} {p : Past} {l : Log} → Accepted c → Agrees p l → (k : Command) → Agrees (triedOf c p k) (fed c l k)
+unfolding triedOf carriedOf fed
 agrees-step {c} {p} {l} n a k = rw (same-verdict n a k) (go (allowed c l k))
   where
     go : (t : Bool) → Agrees (sentOf p (cond t k Nop)) (record { now = suc (l .now); past = cond t (record { slot = l .now; command = k } ∷ l .past) (l .past) })
@@ -128,5 +128,5 @@ agrees-step {c} {p} {l} n a k = rw (same-verdict n a k) (go (allowed c l k))
 
 -- the slot after a legal command
 pub agrees-sent : {c : Config} {p : Past} {l : Log} → Accepted c → Agrees p l → (k : Command) → legalOf c (byAges c p) k ≡ true → Agrees (sentOf p k) (fed c l k)
-unfolding attemptOf carriedOf
+unfolding triedOf carriedOf
 agrees-sent {c} {p} {l} n a k e = rw e at (agrees-step n a k)

@@ -28,10 +28,11 @@ use Rattle.device.specs.View.{
   marksOf,
   rowOf,
 }
+use Rattle.device.specs.Rules.{carriedOf}
 use Rattle.device.proofs.Tests.{four-banks}
 use Rattle.device.proofs.Alike.{Known}
 use Rattle.ages.specs.declared.Past.{Past}
-use Rattle.ages.specs.Ages.{cap, firstRow, freshOf, ageOf, openedOf, rowIn, rowAt, agedOf, agesAfter, sentOf}
+use Rattle.ages.specs.Ages.{cap, firstRow, freshOf, ageOf, openedOf, rowIn, rowAt, byAges, agedOf, agesAfter, sentOf}
 
 -- the ages that the banks' ACTs start
 act-aged : (p : Past) (k : Command) (b : ℕ) → b < 4 → getD (sentOf p k .ages) b 0 ≡ agedOf (marksOf k b .act) (getD (p .ages) b 0)
@@ -158,3 +159,7 @@ some-slots a (rowToRow b) = a .rrd-least
 some-slots a (rowToColumn b) = a .rcd-least
 some-slots a (rowActive b) = a .ras-least
 some-slots a (writeRecovery b) = a .wr-least
+
+-- the past after a slot in which k is tried: k is sent if it is legal, otherwise NOP
+unfoldable pub triedOf : Config → Past → Command → Past
+triedOf c p k = sentOf p (carriedOf c (byAges c p) k)

@@ -25,9 +25,7 @@ use Rattle.device.specs.View.{
   starts,
   rowOf,
 }
-use Rattle.device.specs.Rules.{legalOf, carriedOf}
 use Rattle.ages.specs.declared.Past.{Past}
-use Rattle.ages.specs.declared.Attempt.{Attempt}
 
 -- the largest distance, and where an age stops; a command never sent has this age
 abbrev pub cap : ℕ
@@ -102,9 +100,3 @@ sentOf p k =
       rows = rowAfter (p .rows) k 0 ∷ rowAfter (p .rows) k 1 ∷ rowAfter (p .rows) k 2 ∷ rowAfter (p .rows) k 3 ∷ [];
       programmed = cond (starts modeRegister k) true (p .programmed);
     }
-
--- a command tried in a slot: was it legal, the slot's command, and the past after it
-unfoldable pub attemptOf : Config → Past → Command → Attempt
-attemptOf c p k =
-    let carried : Command = carriedOf c (byAges c p) k in
-    record { sent = legalOf c (byAges c p) k; command = carried; past = sentOf p carried }

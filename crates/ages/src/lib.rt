@@ -1,15 +1,13 @@
 // Owns the past commands as the sequencer keeps them, as ages: what the rules see of that, its agreement with the plain SDRAM's history,
-// and the code that reads it and makes it a slot older.
+// and the code that reads it. `aging` makes it a slot older.
 use address::Bank;
 use address::Row;
-use command::Command;
 ghost use mathlib.Core.Path.{_≡_};
-ghost use mathlib.Core.Bool.{false};
 ghost use Rattle.device.specs.View.{allClosed};
-ghost use Rattle.ages.specs.Ages.{freshOf, openedOf, rowIn, rowAt, agedOf, sentOf};
+ghost use Rattle.ages.specs.Ages.{freshOf, openedOf, rowIn, rowAt};
 
 // The largest distance, where an age stops.
-const CAP: u8 = 32;
+pub const CAP: u8 = 32;
 
 // What is kept of the past commands. An age is in slots, as the next slot sees it: 1 after the command's own slot, 32 at most, and 32 if
 // there was none. The ages: ACT of each bank, its PRE or any DEAC, WRT to it; then REFR, MRS, any PRE or DEAC, READ.
@@ -20,13 +18,6 @@ pub struct Past {
     pub rows: [Row; 4],
     // Has an MRS been sent?
     pub programmed: bool,
-}
-
-// A command tried in a slot: was it legal, the slot's command (NOP where it wasn't), and the past after the slot.
-pub struct Attempt {
-    pub sent: bool,
-    pub command: Command,
-    pub past: Past,
 }
 
 // The past before any command was sent.
@@ -80,42 +71,4 @@ pub fn all_closed(p: Past) -> bool
         return false;
     }
     !p.opened[3]
-}
-
-// An age after a slot whose command doesn't start its distances.
-fn aged(age: u8) -> u8
-    ensures { λ r. ⌜ r ≡ agedOf false age ⌝ }
-{
-    if CAP <= age {
-        return CAP;
-    }
-    age + 1
-}
-
-// The past after a slot's NOP. The ages as one literal, which compiles to vector instructions.
-pub fn rested(p: Past) -> Past
-    ensures { λ r. ⌜ r ≡ sentOf p Command.Nop ⌝ }
-{
-    let before = p.ages;
-    let ages = [
-        aged(before[0]),
-        aged(before[1]),
-        aged(before[2]),
-        aged(before[3]),
-        aged(before[4]),
-        aged(before[5]),
-        aged(before[6]),
-        aged(before[7]),
-        aged(before[8]),
-        aged(before[9]),
-        aged(before[10]),
-        aged(before[11]),
-        aged(before[12]),
-        aged(before[13]),
-        aged(before[14]),
-        aged(before[15]),
-    ];
-    let mut q = p;
-    q.ages = ages;
-    q
 }

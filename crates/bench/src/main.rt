@@ -4,13 +4,16 @@ use command::Command;
 use libc::STDOUT_FILENO;
 use plan::Report;
 use sequencer::Machine;
+use sequencer::Requested;
 
 const SLOTS: u32 = 10000000;
 
-// The machine, the stream and the digest so far.
+// Is the backlog read after each slot?
+const READING: bool = false;
+
+// The machine and the digest at the end.
 struct Bench {
     machine: Machine,
-    stream: u32,
     digest: u32,
 }
 
@@ -61,72 +64,47 @@ fn mix_report(digest: u32, report: Report) -> u32 {
     }
 }
 
-impl Bench {
-    // A request in one slot of eight on the average.
-    fn ask(self) -> Bench {
-        let x = self.stream;
-        if x % 8 != 0 {
-            return self;
-        }
-        let address = x / 256 % 64 * 2048 + x / 16384 % 1024 * 2;
-        if x / 8 % 2 == 1 {
-            let r = self.machine.write(address, (x / 65536) as u16);
-            let machine = r.machine;
-            return Bench {
-                machine,
-                stream: x,
-                digest: mix(mix(self.digest, r.number as u32), r.request),
-            };
-        }
-        let r = self.machine.read(address);
-        let machine = r.machine;
-        Bench {
-            machine,
-            stream: x,
-            digest: mix(mix(self.digest, r.number as u32), r.request),
-        }
+// A request of the stream's word x.
+fn asked(machine: Machine, x: u32) -> Requested {
+    let address = x / 256 % 64 * 2048 + x / 16384 % 1024 * 2;
+    if x / 8 % 2 == 1 {
+        return machine.write(address, (x / 65536) as u16);
     }
-
-    fn slot(self) -> Bench {
-        let x = self.stream;
-        let s = self.machine.slot((x / 65536) as u16);
-        let machine = s.machine;
-        let command = s.command;
-        let report = s.report;
-        let a = mix(self.digest, s.number as u32);
-        let b = mix_command(a, command);
-        Bench {
-            machine,
-            stream: x,
-            digest: mix_report(b, report),
-        }
-    }
-
-    fn next(self) -> Bench {
-        let machine = self.machine;
-        let b = Bench {
-            machine,
-            stream: shuffle(self.stream),
-            digest: self.digest,
-        };
-        b.ask().slot()
-    }
+    machine.read(address)
 }
 
+// The reading call, where it is measured.
+fn mix_reading(digest: u32, machine: Machine) -> u32 {
+    if READING {
+        let r = machine.backlog();
+        return mix(mix(digest, r.number as u32), r.backlog as u32);
+    }
+    digest
+}
+
+// A request in one slot of eight on the average, and a slot each time.
 fn run() -> Bench {
     let made = Machine::configure(0x4620, 4, 136, 0x42215810);
-    let machine = made.machine;
-    let mut b = Bench {
-        machine,
-        stream: 2463534242,
-        digest: 1,
-    };
+    let mut machine = made.machine;
+    let mut x: u32 = 2463534242;
+    let mut digest: u32 = 1;
     let mut n: u32 = 0;
     while n < SLOTS {
-        b = b.next();
+        x = shuffle(x);
+        if x % 8 == 0 {
+            let r = asked(machine, x);
+            machine = r.machine;
+            digest = mix(mix(digest, r.number as u32), r.request);
+        }
+        let s = machine.slot((x / 65536) as u16);
+        machine = s.machine;
+        let command = s.command;
+        let report = s.report;
+        let after = mix_report(mix_command(mix(digest, s.number as u32), command), report);
+        digest = mix_reading(after, machine);
         n += 1;
     }
-    b
+    Bench { machine, digest }
 }
 
 fn main() {

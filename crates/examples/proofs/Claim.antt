@@ -19,11 +19,12 @@ use Rattle.plan.specs.Plan as plan
 use Rattle.plan.specs.Choice.{rulesOf, choiceOf, currentOf}
 use Rattle.plan.specs.Slot.{tickedOf, turnOf}
 use Rattle.sequencer.specs.Machine.{blankOf, machineOf, stepOf}
-use Rattle.sequencer.specs.Sound.{fitOf, soundOf}
-use Rattle.sequencer.specs.Calls.{configuredBy, configureOf, recordNumberOf, roomNumberOf, requestNumberOf, queuedRequest, enqueuedOf, requestOf, slotOf}
+use Rattle.numbers.specs.Sound.{fitBy, soundBy}
+use Rattle.numbers.specs.Numbers.{recordNumberBy, roomNumberOf, requestNumberBy}
+use Rattle.sequencer.specs.Calls.{configuredBy, configureOf, queuedRequest, enqueuedOf, requestOf, slotOf}
 use Rattle.examples.specs.Run.{occupied, watched, requested}
 use Rattle.examples.specs.Table.{table, answer}
 
 pub examples-hold : map (λ e. answer (e .asked)) table ≡ map (λ e. e .said) table
-unfolding table answer settingOf reservedAll reservedMap offeredOf checkedOf configOf geometryOf toCellOf mapNumberOf locatedOf addressNumberOf capacityOf cellOf holdsOf allClosed marksOf rowOf legalOf requirements R7 R12-open R13-open R14 freshOf openedOf rowIn rowAt agedOf agesAfter sentOf carriedOf without emptyOf acceptOf removeOf getOf blockedOf readyOf oldestOf soundQueue startOf tickOf refreshedOf soundCounters levelOf soundAction plan.quietly plan.outcomeOf plan.tries plan.rest plan.afterPause plan.afterInitRefresh plan.readPlan plan.writePlan plan.transferPlan plan.accessPlan plan.takenPlan plan.latencyPlan plan.cycleLeft plan.refreshPlan plan.planOf plan.queueAfter plan.countersAfter rulesOf choiceOf currentOf tickedOf turnOf blankOf machineOf stepOf configAccepted shapedOf distancesOf spannedOf fitOf soundOf configuredBy configureOf recordNumberOf roomNumberOf requestNumberOf queuedRequest enqueuedOf requestOf slotOf occupied watched requested
+unfolding table answer settingOf reservedAll reservedMap offeredOf checkedOf configOf geometryOf toCellOf mapNumberOf locatedOf addressNumberOf capacityOf cellOf holdsOf allClosed marksOf rowOf legalOf requirements R7 R12-open R13-open R14 freshOf openedOf rowIn rowAt agedOf agesAfter sentOf carriedOf without emptyOf acceptOf removeOf getOf blockedOf readyOf oldestOf soundQueue startOf tickOf refreshedOf soundCounters levelOf soundAction plan.quietly plan.outcomeOf plan.tries plan.rest plan.afterPause plan.afterInitRefresh plan.readPlan plan.writePlan plan.transferPlan plan.accessPlan plan.takenPlan plan.latencyPlan plan.cycleLeft plan.refreshPlan plan.planOf plan.queueAfter plan.countersAfter rulesOf choiceOf currentOf tickedOf turnOf blankOf machineOf stepOf configAccepted shapedOf distancesOf spannedOf fitBy soundBy configuredBy configureOf recordNumberBy roomNumberOf requestNumberBy queuedRequest enqueuedOf requestOf slotOf occupied watched requested
 examples-hold = refl

@@ -23,14 +23,12 @@ use Rattle.plan.specs.Choice.{rulesOf, choiceOf, currentOf}
 use Rattle.plan.specs.Slot.{tickedOf, turnOf}
 use Rattle.sequencer.specs.declared.Machine.{Machine}
 use Rattle.sequencer.specs.Machine.{blankOf, machineOf, stepOf}
-use Rattle.sequencer.specs.Sound.{fitOf, soundOf}
+use Rattle.numbers.specs.Sound.{fitBy, soundBy}
+use Rattle.numbers.specs.Numbers.{recordNumberBy, roomNumberOf, requestNumberBy}
 use Rattle.config.specs.Accepted.{acceptedOf as configAccepted, shapedOf, distancesOf, spannedOf}
 use Rattle.sequencer.specs.Calls.{
   configuredBy,
   configureOf,
-  recordNumberOf,
-  roomNumberOf,
-  requestNumberOf,
   queuedRequest,
   enqueuedOf,
   requestOf,
@@ -83,7 +81,7 @@ pub record ClosedRun : Type 0 where
   pub refreshed : refreshes (machine .config) (world (opening ++ (busy ++ rest))) ≡ 15
 
 pub closed-run : ClosedRun
-unfolding firstService times machine world opening busy rest settingOf reservedAll reservedMap offeredOf checkedOf configOf geometryOf addressNumberOf capacityOf cellOf holdsOf allClosed marksOf rowOf R7 R12-open R13-open R14 requirements legalOf last openRow startLog fed freshOf openedOf rowIn rowAt agedOf agesAfter sentOf carriedOf without emptyOf acceptOf removeOf getOf blockedOf readyOf oldestOf soundQueue startOf tickOf refreshedOf soundCounters levelOf soundAction plan.quietly plan.outcomeOf plan.tries plan.rest plan.afterPause plan.afterInitRefresh plan.readPlan plan.writePlan plan.transferPlan plan.accessPlan plan.takenPlan plan.latencyPlan plan.cycleLeft plan.refreshPlan plan.planOf plan.queueAfter plan.countersAfter rulesOf choiceOf currentOf tickedOf turnOf blankOf machineOf stepOf fitOf soundOf configAccepted shapedOf distancesOf spannedOf configuredBy configureOf recordNumberOf roomNumberOf requestNumberOf queuedRequest enqueuedOf requestOf slotOf stored startSdram cellsAfter drivenAfter takes sdramAfter startFlat taken flatAfter startWorld busOf slotIn afterSlot afterRequest after played
+unfolding firstService times machine world opening busy rest settingOf reservedAll reservedMap offeredOf checkedOf configOf geometryOf addressNumberOf capacityOf cellOf holdsOf allClosed marksOf rowOf R7 R12-open R13-open R14 requirements legalOf last openRow startLog fed freshOf openedOf rowIn rowAt agedOf agesAfter sentOf carriedOf without emptyOf acceptOf removeOf getOf blockedOf readyOf oldestOf soundQueue startOf tickOf refreshedOf soundCounters levelOf soundAction plan.quietly plan.outcomeOf plan.tries plan.rest plan.afterPause plan.afterInitRefresh plan.readPlan plan.writePlan plan.transferPlan plan.accessPlan plan.takenPlan plan.latencyPlan plan.cycleLeft plan.refreshPlan plan.planOf plan.queueAfter plan.countersAfter rulesOf choiceOf currentOf tickedOf turnOf blankOf machineOf stepOf fitBy soundBy configAccepted shapedOf distancesOf spannedOf configuredBy configureOf recordNumberBy roomNumberOf requestNumberBy queuedRequest enqueuedOf requestOf slotOf stored startSdram cellsAfter drivenAfter takes sdramAfter startFlat taken flatAfter startWorld busOf slotIn afterSlot afterRequest after played
 closed-run =
     record {
       odd = refl;

@@ -32,7 +32,7 @@ use Rattle.ages.proofs.Agree.{Agrees}
 use Rattle.queue.specs.declared.Kind.{Kind}
 use Rattle.queue.specs.declared.Queue.{Queue}
 use Rattle.queue.specs.declared.Request.{Request}
-use Rattle.queue.specs.Places.{heldOf, noRequest, getOf}
+use Rattle.queue.specs.Places.{cellHeld, heldOf, noRequest, getOf}
 use Rattle.queue.proofs.Tidy.{Tidy}
 use Rattle.queue.proofs.Order.{Each, Servable, Rising}
 use Rattle.queue.proofs.Consistent.{Consistent}
@@ -71,7 +71,7 @@ Ok g a = (a % 2 ≡ 0) × (a < capacityOf g)
 -- a queued request's address counts, and its cell is that address's
 pub record Good (g : Geometry) (r : Request) : Type 0 where
   pub ok : Ok g (r .address)
-  pub cell : r .cell ≡ cellOf g (r .address)
+  pub cell : cellHeld r ≡ cellOf g (r .address)
 
 -- the SDRAM's cells as a memory of addresses
 abbrev pub seen : Geometry → Cells → ℕ → ℕ
@@ -148,11 +148,11 @@ prechargeLeft c p b = bankHeld c p b + c .rp + short c p (rowCycle b) + othersHe
 
 -- by the bank's open row
 abbrev pub rowLeft : Config → Past → Option Row → Request → ℕ
-rowLeft c p none r = activateLeft c p (r .cell .bank .0)
-rowLeft c p (some x) r = cond (eqb (x .0) (r .cell .row .0)) (transferLeft c p (r .kind) (r .cell .bank .0)) (prechargeLeft c p (r .cell .bank .0))
+rowLeft c p none r = activateLeft c p (r .bank .0)
+rowLeft c p (some x) r = cond (eqb (x .0) (r .row .0)) (transferLeft c p (r .kind) (r .bank .0)) (prechargeLeft c p (r .bank .0))
 
 unfoldable pub accessLeft : Config → Past → Request → ℕ
-accessLeft c p r = rowLeft c p (rowAt p (r .cell .bank .0)) r
+accessLeft c p r = rowLeft c p (rowAt p (r .bank .0)) r
 
 -- the initialisation has none: its slots are counted (Start)
 abbrev pub leftOf : Config → Past → Queue → Action → ℕ

@@ -1,19 +1,73 @@
--- A plan carried out, by whether its command is legal: every slot's command is legal, and the past after it is the past with that command sent.
+-- A slot as the claim's proofs take it apart: its counters, its action, the plan carried out on the record of ages, and what follows. Every slot's
+-- command is legal, and the past after it is the past with that command sent.
+use Prim.Native.Nat.{ℕ}
 use mathlib.Core.Path.{_≡_, refl}
 use mathlib.Core.Bool.{true, false}
 use Rattle.config.specs.declared.Config.{Config}
 use Rattle.command.specs.declared.Command.{Command}
 use Rattle.command.specs.declared.Command.the-variants.{Nop}
+use Rattle.device.specs.View.{allClosed}
 use Rattle.device.specs.Rules.{requirements, legalOf, carriedOf}
 use Rattle.device.proofs.Tests.{by-test}
 use Rattle.ages.specs.declared.Past.{Past}
-use Rattle.ages.specs.Ages.{byAges, sentOf, attemptOf}
+use Rattle.ages.specs.Ages.{rowAt, byAges, sentOf}
+use Rattle.queue.specs.declared.Request.{Request}
+use Rattle.queue.specs.Places.{getOf}
+use Rattle.refresh.specs.declared.Counters.{Counters}
 use Rattle.plan.specs.declared.Action.{Action}
 use Rattle.plan.specs.declared.Outcome.{Outcome}
-use Rattle.plan.specs.Plan.{Plan, quietly, outcomeOf, rest}
-use Rattle.service.specs.declared.Served.{Served}
-use Rattle.service.specs.Serve.{carriedOut, performedOf, restedOf}
-use Rattle.service.proofs.Laws.{rest-performs}
+use Rattle.plan.specs.Actions.{underWay}
+use Rattle.plan.specs.Plan.{Plan, quietly, outcomeOf, tries, rest, planOf, queueAfter, countersAfter}
+use Rattle.plan.specs.Choice.{Choice, currentOf}
+use Rattle.plan.specs.Slot.{tickedOf, turnOf}
+use Rattle.sequencer.specs.declared.Machine.{Machine}
+use Rattle.sequencer.specs.declared.Slot.{Slot}
+use Rattle.sequencer.specs.Machine.{machineWith, stepOf}
+
+-- what a plan gives: the past after it, the slot's command, and what follows
+pub record Served : Type 0 where
+  pub past : Past
+  pub command : Command
+  pub outcome : Outcome
+
+-- a plan carried out on the past as it is kept
+unfoldable pub performedOf : Config → Past → Plan → Served
+performedOf c p plan =
+    record {
+      past = sentOf p (carriedOf c (byAges c p) (plan .command));
+      command = carriedOf c (byAges c p) (plan .command);
+      outcome = outcomeOf (legalOf c (byAges c p) (plan .command)) (plan .sent) (plan .stays);
+    }
+
+-- the slot of an action; r is the request under way, and `bus` the halfword that the bus carries
+unfoldable pub servedOf : Config → Past → Request → Action → ℕ → Served
+servedOf c p r a bus = performedOf c p (planOf c (byAges c p) r a bus)
+
+-- A machine's slot: its counters, its action, the action's plan carried out, and what follows.
+
+unfoldable pub countersOf : Machine → Counters
+countersOf m = tickedOf (m .config) (m .counters) (m .control .action)
+
+unfoldable pub chosenOf : Machine → Choice
+chosenOf m = currentOf (m .control) (countersOf m .backlog) (m .queue) (allClosed (rowAt (m .past)))
+
+unfoldable pub actedOf : Machine → Choice → ℕ → Served
+actedOf m x bus = servedOf (m .config) (m .past) (getOf (x .queue) (underWay (x .control .action))) (x .control .action) bus
+
+unfoldable pub afterOf : Machine → Choice → Served → Slot
+afterOf m x s =
+    record {
+      machine = machineWith (m .configured) (m .config) (s .past) (countersAfter (countersOf m) (s .outcome .refreshes))
+          (record { action = s .outcome .action; must = x .control .must })
+          (queueAfter (x .queue) (underWay (x .control .action)) (s .outcome .leaves)) (m .accepted);
+      number = 0;
+      command = s .command;
+      report = s .outcome .report;
+    }
+
+pub step-is : (m : Machine) (bus : ℕ) → stepOf m bus ≡ afterOf m (chosenOf m) (actedOf m (chosenOf m) bus)
+unfolding stepOf turnOf countersOf chosenOf actedOf afterOf servedOf performedOf
+step-is m bus = refl
 
 -- a slot that carries k, which is legal
 abbrev pub sending : Past → Command → Outcome → Served
@@ -24,12 +78,12 @@ module _ (c : Config) (p : Past) where
       → (legalOf c (byAges c p) (plan .command) ≡ true → P (sending p (plan .command) (plan .sent)))
       → (legalOf c (byAges c p) (plan .command) ≡ false → P (sending p Nop (quietly (plan .stays))))
       → P (performedOf c p plan)
-  unfolding performedOf carriedOut attemptOf carriedOf outcomeOf
+  unfolding performedOf carriedOf outcomeOf
   performed-both P plan yes′ no′ = by-test (legalOf c (byAges c p) (plan .command)) (λ e. rw e (yes′ e)) (λ e. rw e (no′ e))
 
   pub rest-only : (P : Served → Type 0) (next : Action) → P (sending p Nop (quietly next)) → P (performedOf c p (rest next))
-  unfolding restedOf
-  rest-only P next h = rw (← rest-performs c p next) h
+  unfolding performedOf carriedOf legalOf requirements rest tries outcomeOf
+  rest-only P next h = h
 
   pub legal-nop : legalOf c (byAges c p) Nop ≡ true
   unfolding legalOf requirements

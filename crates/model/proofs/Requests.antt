@@ -15,7 +15,8 @@ use Rattle.queue.specs.declared.Queue.{Queue}
 use Rattle.queue.specs.declared.Request.{Request}
 use Rattle.queue.specs.Places.{acceptOf}
 use Rattle.plan.specs.Actions.{inService}
-use Rattle.sequencer.specs.Calls.{lastNumber, roomNumberOf, requestNumberOf, queuedRequest, enqueuedOf, requestOf}
+use Rattle.numbers.specs.Numbers.{lastNumber, roomNumberOf, requestNumberBy}
+use Rattle.sequencer.specs.Calls.{requestNumberOf, queuedRequest, enqueuedOf, requestOf}
 use Rattle.sequencer.proofs.Laws.{RequestFacts, request-facts}
 use Rattle.model.specs.Flat.{taken, flatAfter}
 use Rattle.model.specs.World.{World, afterRequest}
@@ -39,7 +40,7 @@ outside g a room = go (eqb (a % 2) 1) (leb (capacityOf g) a)
 
 module _ {c : Config} {w : World} (a : Accepted c) (v : Whole c w) where
   asked : (address : ℕ) → requestNumberOf (w .machine) address ≡ askedNumber c w address
-  unfolding requestNumberOf askedNumber roomNumberOf
+  unfolding requestNumberBy askedNumber roomNumberOf
   asked address =
       let queued : w .machine .queue .count ≡ w .flat .count - length (w .reported) = omega (arith, v .waiting, v .ordered .counted) in
       rw (eq-eqb _ _ (sound a v), v .kept .config)
@@ -105,7 +106,7 @@ request-own : (w : World) → Whole (w .machine .config) w → (kind : Kind) (ad
     → Whole (w .machine .config) (afterRequest w kind address halfword (requestOf (w .machine) kind address halfword))
 request-own w v kind address halfword =
     request-cases (w .machine) kind address halfword (λ x. Whole (w .machine .config) (afterRequest w kind address halfword x))
-    (λ e. request-accepted w v kind address halfword (request-facts e))
+    (λ e. request-accepted w v kind address halfword (request-facts (w .machine) address e))
     (λ e. refused v kind address halfword (requestNumberOf (w .machine) address) e)
 
 pub request-whole : {c : Config} (w : World) → Whole c w → (kind : Kind) (address halfword : ℕ)

@@ -42,6 +42,7 @@ use Rattle.plan.specs.declared.Action.the-variants.{
 }
 use Rattle.plan.specs.Actions.{inService}
 use Rattle.plan.proofs.Sound.{SoundAction}
+use Rattle.numbers.specs.Numbers.{recordNumberBy}
 use Rattle.sequencer.specs.Calls.{recordNumberOf, backlogOf}
 use Rattle.sequencer.proofs.Laws.{SoundFacts, facts-sound}
 use Rattle.model.specs.Sdram.{Sdram}
@@ -167,7 +168,7 @@ action-sound {c} {w} v = go (inService (w .machine .control .action)) refl (v .t
 
 module _ {c : Config} {w : World} (a : Accepted c) (v : Whole c w) where
   pub sound : recordNumberOf (w .machine) ≡ 0
-  unfolding recordNumberOf
+  unfolding recordNumberBy
   sound =
       let n = tally a v in
       let k = v .kept in
@@ -179,7 +180,7 @@ module _ {c : Config} {w : World} (a : Accepted c) (v : Whole c w) where
         action = rw (k .config) (action-sound v);
         queue = rw (k .config) (record { count = o .tidy .within; inside = good-inside (c .geometry) (heldOf (w .machine .queue)) (o .good) });
       } in
-      simp (facts-sound facts, k .configured)
+      rw (facts-sound (w .machine) facts, k .configured)
 
   pub standing : Standing c w
   standing =

@@ -36,10 +36,8 @@ use Rattle.plan.specs.declared.Action.the-variants.{
 }
 use Rattle.plan.specs.Actions.{isIdle, inService, firstAction}
 use Rattle.plan.specs.Plan.{quietly, tries, rest, afterPause, afterInitRefresh, modeWord, planOf}
-use Rattle.service.specs.declared.Served.{Served}
-use Rattle.service.specs.Serve.{performedOf, servedOf}
 use Rattle.model.specs.Condition.{firstService}
-use Rattle.model.proofs.Plans.{performed-both, rest-only}
+use Rattle.model.proofs.Plans.{Served, performedOf, servedOf, performed-both, rest-only}
 use Rattle.model.proofs.Timing.Distances.{R14-closed}
 
 -- the slot of the MRS
@@ -349,9 +347,9 @@ done-set c p now Refresh e s = absurd s
 done-set c p now (RefreshCycle left) e s = absurd s
 
 -- no slot of the initialisation takes anything off the backlog
-attempt-keeps : (c : Config) (p : Past) (k : Command) (stays next : Action) → performedOf c p (tries k stays next) .outcome .refreshes ≡ false
+tried-keeps : (c : Config) (p : Past) (k : Command) (stays next : Action) → performedOf c p (tries k stays next) .outcome .refreshes ≡ false
 unfolding tries quietly
-attempt-keeps c p k stays next = performed-both c p (λ (s : Served). s .outcome .refreshes ≡ false) (tries k stays next) (λ e. refl) (λ e. refl)
+tried-keeps c p k stays next = performed-both c p (λ (s : Served). s .outcome .refreshes ≡ false) (tries k stays next) (λ e. refl) (λ e. refl)
 
 rest-keeps : (c : Config) (p : Past) (next : Action) → performedOf c p (rest next) .outcome .refreshes ≡ false
 unfolding quietly
@@ -360,9 +358,9 @@ rest-keeps c p next = rest-only c p (λ (s : Served). s .outcome .refreshes ≡ 
 pub starting-keeps : (c : Config) (p : Past) (r : Request) (x : Action) (bus : ℕ) → inService x ≡ false → servedOf c p r x bus .outcome .refreshes ≡ false
 unfolding servedOf planOf
 starting-keeps c p r (PowerUp k) bus e = rest-keeps c p _
-starting-keeps c p r InitPrecharge bus e = attempt-keeps c p _ _ _
-starting-keeps c p r (InitRefresh k) bus e = attempt-keeps c p _ _ _
-starting-keeps c p r InitMode bus e = attempt-keeps c p _ _ _
+starting-keeps c p r InitPrecharge bus e = tried-keeps c p _ _ _
+starting-keeps c p r (InitRefresh k) bus e = tried-keeps c p _ _ _
+starting-keeps c p r InitMode bus e = tried-keeps c p _ _ _
 starting-keeps c p r InitSettle bus e = rest-keeps c p _
 starting-keeps c p r Idle bus e = absurd (true≢false e)
 starting-keeps c p r (Access i) bus e = absurd (true≢false e)

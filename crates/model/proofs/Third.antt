@@ -45,21 +45,17 @@ use Rattle.plan.specs.Actions.{isIdle, inService, underWay}
 use Rattle.plan.specs.Plan.{planOf, countersAfter}
 use Rattle.plan.specs.Choice.{Choice, choiceOf, currentOf}
 use Rattle.plan.specs.Slot.{tickedOf}
-use Rattle.service.specs.declared.Served.{Served}
-use Rattle.service.specs.Serve.{servedOf}
 use Rattle.sequencer.specs.declared.Machine.{Machine}
 use Rattle.sequencer.specs.declared.Slot.{Slot}
 use Rattle.sequencer.specs.declared.Configured.{Configured}
 use Rattle.sequencer.specs.Calls.{configuredBy, configureOf}
 use Rattle.sequencer.specs.Machine.{blankOf, machineOf}
-use Rattle.sequencer.specs.Steps.{countersOf, chosenOf, actedOf, afterOf}
-use Rattle.sequencer.proofs.Laws.{step-is}
 use Rattle.model.specs.Sdram.{Cells, takes, startSdram, sdramAfter}
 use Rattle.model.specs.World.{World, Call, read, write, slot, backlog, startWorld, busOf, slotIn, afterSlot, after}
 use Rattle.model.specs.Condition.{isRefr, firstService, servedBy, serviceRefreshes, expiries, refreshes, Carried, Right, Promised, ThirdCondition}
 use Rattle.model.proofs.Invariant.{Settled}
 use Rattle.model.proofs.Calls.{slot-steps}
-use Rattle.model.proofs.Plans.{Sends, performed-sends}
+use Rattle.model.proofs.Plans.{Served, servedOf, countersOf, chosenOf, actedOf, afterOf, step-is, Sends, performed-sends}
 use Rattle.model.proofs.Order.Queue.{ordered-start, ordered-current}
 use Rattle.model.proofs.Order.Slot.{Acted, bus-carries, ordered-act}
 use Rattle.model.proofs.Refreshes.{refreshes-before, refreshes-after}

@@ -22,7 +22,8 @@ use Rattle.plan.specs.Actions.{inService}
 use Rattle.sequencer.specs.declared.Reading.{Reading}
 use Rattle.sequencer.specs.declared.Requested.{Requested}
 use Rattle.sequencer.specs.declared.Slot.{Slot}
-use Rattle.sequencer.specs.Calls.{configureOf, recordNumberOf, lastNumber, readRequestOf, writeRequestOf, backlogOf}
+use Rattle.numbers.specs.Numbers.{lastNumber}
+use Rattle.sequencer.specs.Calls.{configureOf, recordNumberOf, readRequestOf, writeRequestOf, backlogOf}
 use Rattle.model.specs.Sdram.{Cells, takes}
 use Rattle.model.specs.World.{World, Call, read, write, slot, backlog, slotIn, startWorld, after}
 

@@ -17,7 +17,7 @@ use Rattle.queue.specs.declared.Found.{Found}
 use Rattle.queue.specs.declared.Found.the-variants.{At}
 use Rattle.queue.specs.declared.Request.{Request}
 use Rattle.queue.specs.declared.Queue.{Queue}
-use Rattle.queue.specs.Places.{heldOf, without, emptyOf, acceptOf, removeOf, getOf}
+use Rattle.queue.specs.Places.{requestFor, cellHeld, noRequest, heldOf, without, emptyOf, acceptOf, removeOf, getOf}
 use Rattle.queue.specs.Oldest.{blockedOf, readyOf, oldestOf}
 use Rattle.refresh.specs.declared.Counters.{Counters}
 use Rattle.refresh.specs.declared.Level.{Level}
@@ -124,8 +124,7 @@ choices-made = refl
 -- unblocked read, and with no such read the oldest write; the flag goes with it, and an action under way keeps both.
 
 asks : Kind → ℕ → ℕ → Request
-asks kind n address =
-    record { number = n; kind = kind; address = address; cell = record { bank = record { 0 = 0 }; row = record { 0 = 0 }; column = record { 0 = 0 } }; halfword = 0 }
+asks kind n address = requestFor kind n address (cellHeld noRequest) 0
 
 mixed : Queue
 mixed = acceptOf (acceptOf (acceptOf emptyOf (asks Kind.Write 1 0)) (asks Kind.Read 2 2046)) (asks Kind.Read 3 2048)
@@ -210,8 +209,7 @@ run c ks rs a ls = record { config = c; before = ks; requests = rs; action = a; 
 
 -- the requests at bank, row and column are numbered 41, 42, ..; a write's halfword is 7
 asked : Kind → ℕ → ℕ → ℕ → ℕ → Request
-asked kind n b r k =
-    record { number = n; kind = kind; address = 0; cell = record { bank = record { 0 = b }; row = record { 0 = r }; column = record { 0 = k } }; halfword = 7 }
+asked kind n b r k = requestFor kind n 0 (record { bank = record { 0 = b }; row = record { 0 = r }; column = record { 0 = k } }) 7
 
 act : ℕ → ℕ → Command
 act b r = Act (record { 0 = b }) (record { 0 = r })

@@ -69,13 +69,13 @@ modeWord c = 16 * c .latency
 
 -- a read's halfword is on the bus CL slots after its READ
 unfoldable pub readPlan : Config → ℕ → Request → Plan
-readPlan c i r = tries (Command.Read (r .cell .bank) (r .cell .column)) (Access i) (CasLatency i (c .latency))
+readPlan c i r = tries (Command.Read (r .bank) (r .column)) (Access i) (CasLatency i (c .latency))
 
 -- a write is reported and leaves the queue in its WRT slot, which is the action's last
 unfoldable pub writePlan : ℕ → Request → Plan
 writePlan i r =
     record {
-      command = Wrt (r .cell .bank) (r .cell .column) (r .halfword);
+      command = Wrt (r .bank) (r .column) (r .halfword);
       sent = record { action = Idle; report = Report.Write (r .number); leaves = true; refreshes = false };
       stays = Access i;
     }
@@ -86,9 +86,9 @@ transferPlan c i r Kind.Write = writePlan i r
 
 -- by the bank's open row
 unfoldable pub accessPlan : Config → Option Row → ℕ → Request → Plan
-accessPlan c none i r = tries (Act (r .cell .bank) (r .cell .row)) (Access i) (Access i)
+accessPlan c none i r = tries (Act (r .bank) (r .row)) (Access i) (Access i)
 accessPlan c (some open-row) i r =
-    cond (eqb (open-row .0) (r .cell .row .0)) (transferPlan c i r (r .kind)) (tries (Pre (r .cell .bank)) (Access i) (Access i))
+    cond (eqb (open-row .0) (r .row .0)) (transferPlan c i r (r .kind)) (tries (Pre (r .bank)) (Access i) (Access i))
 
 -- a read is reported with the bus halfword in slot t + CL, and leaves the queue there; one slot more is occupied
 unfoldable pub takenPlan : Request → ℕ → Plan
@@ -123,7 +123,7 @@ planOf c v r (InitRefresh n) bus = tries Refr (InitRefresh n) (afterInitRefresh 
 planOf c v r InitMode bus = tries (Mrs (modeWord c)) InitMode InitSettle
 planOf c v r InitSettle bus = rest Idle
 planOf c v r Idle bus = rest Idle
-planOf c v r (Access i) bus = accessPlan c (v .row (r .cell .bank .0)) i r
+planOf c v r (Access i) bus = accessPlan c (v .row (r .bank .0)) i r
 planOf c v r (CasLatency i left) bus = latencyPlan i left r bus
 planOf c v r Turnaround bus = rest Idle
 planOf c v r PrechargeAll bus = tries Deac PrechargeAll Refresh

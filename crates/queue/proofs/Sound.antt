@@ -13,23 +13,23 @@ use Rattle.address.specs.Map.{Holds, holdsOf}
 use Rattle.address.proofs.Laws.{holds-true, true-holds}
 use Rattle.queue.specs.declared.Request.{Request}
 use Rattle.queue.specs.declared.Queue.{Queue}
-use Rattle.queue.specs.Places.{noRequest, heldOf}
+use Rattle.queue.specs.Places.{noRequest, cellHeld, heldOf}
 use Rattle.queue.proofs.Order.{Each, none, more}
 use Rattle.queue.specs.Sound.{insideOf, soundQueue}
 
 -- the cells of the requests lie in the geometry
 abbrev pub Inside : Geometry → List Request → Type 0
-Inside g = Each (λ r. Holds g (r .cell))
+Inside g = Each (λ r. Holds g (cellHeld r))
 
 inside-true : (g : Geometry) (l : List Request) → insideOf g l ≡ true → Inside g l
 inside-true g [] h = none
 inside-true g (r ∷ rs) h =
-    let p = and-eq-true-iff (holdsOf g (r .cell)) (insideOf g rs) .0 h in
-    more (holds-true g (r .cell) (p .0)) (inside-true g rs (p .1))
+    let p = and-eq-true-iff (holdsOf g (cellHeld r)) (insideOf g rs) .0 h in
+    more (holds-true g (cellHeld r) (p .0)) (inside-true g rs (p .1))
 
 true-inside : (g : Geometry) {l : List Request} → Inside g l → insideOf g l ≡ true
 true-inside g none = refl
-true-inside g (more {r} h hs) = simp (true-holds g (r .cell) h, true-inside g hs)
+true-inside g (more {r} h hs) = simp (true-holds g (cellHeld r) h, true-inside g hs)
 
 pub record SoundQueue (g : Geometry) (q : Queue) : Type 0 where
   pub count : q .count ≤ 8
@@ -48,7 +48,7 @@ queue-sound g q f = simp (le-leb _ _ (f .count), true-inside g (f .inside))
 -- The walk, at place i of the first n.
 
 pub inside-step : (g : Geometry) (l : List Request) (n i : ℕ) → i < n → n ≤ length l
-    → insideOf g (drop i (take n l)) ≡ holdsOf g (getD l i noRequest .cell) && insideOf g (drop (i + 1) (take n l))
+    → insideOf g (drop i (take n l)) ≡ holdsOf g (cellHeld (getD l i noRequest)) && insideOf g (drop (i + 1) (take n l))
 inside-step g l n i h k =
     let p : i < length (take n l) = rw length-take-le h in
     rw (drop-cons (take n l) i noRequest p, getD-take n l i noRequest h, add-one)

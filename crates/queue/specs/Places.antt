@@ -4,20 +4,31 @@ use mathlib.Core.Bool.{cond}
 use mathlib.Core.List.{List, [], _∷_, _++_}
 use lib.Dec.{ltb}
 use lib.ListN.{length, getD, take, drop, set, replicate}
+use Rattle.address.specs.declared.Cell.{Cell}
+use Rattle.queue.specs.declared.Kind.{Kind}
 use Rattle.queue.specs.declared.Kind.the-variants.{Read}
 use Rattle.queue.specs.declared.Request.{Request}
 use Rattle.queue.specs.declared.Queue.{Queue}
 
+-- a request for a cell, and the cell that a request is for
+abbrev pub requestFor : Kind → ℕ → ℕ → Cell → ℕ → Request
+requestFor kind number address cell halfword =
+    record {
+      number = number;
+      address = address;
+      row = cell .row;
+      column = cell .column;
+      halfword = halfword;
+      bank = cell .bank;
+      kind = kind;
+    }
+
+abbrev pub cellHeld : Request → Cell
+cellHeld r = record { bank = r .bank; row = r .row; column = r .column }
+
 -- what a place holds that no request uses
 abbrev pub noRequest : Request
-noRequest =
-    record {
-      number = 0;
-      kind = Read;
-      address = 0;
-      cell = record { bank = record { 0 = 0 }; row = record { 0 = 0 }; column = record { 0 = 0 } };
-      halfword = 0;
-    }
+noRequest = requestFor Read 0 0 (record { bank = record { 0 = 0 }; row = record { 0 = 0 }; column = record { 0 = 0 } }) 0
 
 -- the queued requests, oldest first
 abbrev pub heldOf : Queue → List Request

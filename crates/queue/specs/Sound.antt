@@ -6,11 +6,11 @@ use Rattle.config.specs.declared.Geometry.{Geometry}
 use Rattle.address.specs.Map.{holdsOf}
 use Rattle.queue.specs.declared.Request.{Request}
 use Rattle.queue.specs.declared.Queue.{Queue}
-use Rattle.queue.specs.Places.{heldOf}
+use Rattle.queue.specs.Places.{cellHeld, heldOf}
 
 abbrev pub insideOf : Geometry → List Request → Bool
 insideOf g [] = true
-insideOf g (r ∷ rs) = holdsOf g (r .cell) && insideOf g rs
+insideOf g (r ∷ rs) = holdsOf g (cellHeld r) && insideOf g rs
 
 unfoldable pub soundQueue : Geometry → Queue → Bool
 soundQueue g q = leb (q .count) 8 && insideOf g (heldOf q)

@@ -1,12 +1,12 @@
-// Owns the queue of accepted requests (document 01, "A service slot"): acceptance, removal, blocks, and the oldest unblocked read and write.
+// Owns the queue of accepted requests (document 01, "A service slot"): acceptance and removal; and the definitions of blocked requests and of the
+// oldest unblocked read and write, for which `search` looks.
 use address::Bank;
 use address::Cell;
 use address::Column;
 use address::Row;
 use config::Geometry;
 ghost use Rattle.queue.specs.Places.{noRequest, heldOf, emptyOf, acceptOf, removeOf, getOf, without};
-ghost use Rattle.queue.specs.Oldest.{sameKind, sharedBy, blockedOf, readyOf, oldestOf};
-ghost use Rattle.queue.specs.Sound.{insideOf, soundQueue};
+ghost use Rattle.queue.specs.Sound.{insideOf};
 ghost use Rattle.config.specs.Accepted.{Shaped};
 ghost use lib.ListN.{length, take};
 ghost use mathlib.Core.List.{[], _∷_, _++_};
@@ -18,13 +18,16 @@ pub enum Kind {
     Write,
 }
 
-// One accepted request: its number, its byte address and the cell there. A read's halfword means nothing.
+// One accepted request: its number, its byte address, and bank, row and column of the cell there. A read's halfword means nothing. In this order
+// it takes 16 bytes.
 pub struct Request {
     pub number: u32,
-    pub kind: Kind,
     pub address: u32,
-    pub cell: Cell,
+    pub row: Row,
+    pub column: Column,
     pub halfword: u16,
+    pub bank: Bank,
+    pub kind: Kind,
 }
 
 // Oldest first. The places from count on hold the blank request, so that a queue's contents determine its record.
@@ -45,46 +48,13 @@ fn blank() -> Request
 {
     Request {
         number: 0,
-        kind: Kind::Read,
         address: 0,
-        cell: Cell {
-            bank: Bank(0),
-            row: Row(0),
-            column: Column(0),
-        },
+        row: Row(0),
+        column: Column(0),
         halfword: 0,
+        bank: Bank(0),
+        kind: Kind::Read,
     }
-}
-
-fn is_kind(a: Kind, b: Kind) -> bool
-    ensures { λ r. ⌜ r ≡ sameKind a b ⌝ }
-{
-    match a {
-        Kind::Read => match b {
-            Kind::Read => true,
-            Kind::Write => false,
-        },
-        Kind::Write => match b {
-            Kind::Read => false,
-            Kind::Write => true,
-        },
-    }
-}
-
-// Does one of the first `end` places have the block `wanted`?
-fn shared(places: [Request; 8], end: usize, wanted: u32) -> bool
-    requires { ⌜ end ≤ 8 ⌝ }
-    ensures { λ r. ⌜ r ≡ sharedBy wanted (take end places) ⌝ }
-{
-    let mut i = 0;
-    while i < end {
-        let r = places[i];
-        if address::block(r.address) == wanted {
-            return true;
-        }
-        i += 1;
-    }
-    false
 }
 
 // The places without the one at `at`: the later ones move up, and the last becomes blank.
@@ -104,7 +74,7 @@ fn closed(places: [Request; 8], at: usize) -> [Request; 8]
 }
 
 // Do the cells of the first `end` requests lie in the geometry?
-fn inside(g: Geometry, places: [Request; 8], end: usize) -> bool
+fn all_inside(g: Geometry, places: [Request; 8], end: usize) -> bool
     requires { ⌜ Shaped g ⌝ }
     requires { ⌜ end ≤ 8 ⌝ }
     ensures { λ r. ⌜ r ≡ insideOf g (take end places) ⌝ }
@@ -112,7 +82,10 @@ fn inside(g: Geometry, places: [Request; 8], end: usize) -> bool
     let mut i = 0;
     while i < end {
         let r = places[i];
-        let cell = r.cell;
+        let bank = r.bank;
+        let row = r.row;
+        let column = r.column;
+        let cell = Cell { bank, row, column };
         if !address::holds(g, cell) {
             return false;
         }
@@ -171,7 +144,7 @@ impl Queue {
     }
 
     // How many requests are queued.
-    fn held(self) -> usize
+    pub fn held(self) -> usize
         ensures { λ r. ⌜ r ≡ length (heldOf self) ⌝ }
     {
         if 8 <= self.count {
@@ -180,61 +153,14 @@ impl Queue {
         self.count
     }
 
-    // Has an older queued request the same block?
-    fn blocked(self, at: usize) -> bool
-        ensures { λ r. ⌜ r ≡ blockedOf (heldOf self) at ⌝ }
-    {
-        let n = self.held();
-        if n <= at {
-            return false;
-        }
-        let places = self.places;
-        let r = places[at];
-        shared(places, at, address::block(r.address))
-    }
-
-    // Is the request at a place an unblocked one of this kind?
-    fn ready(self, kind: Kind, at: usize) -> bool
-        requires { ⌜ at < length (heldOf self) ⌝ }
-        ensures { λ r. ⌜ r ≡ readyOf kind (heldOf self) at ⌝ }
-    {
-        let places = self.places;
-        let r = places[at];
-        let k = r.kind;
-        if is_kind(k, kind) {
-            if self.blocked(at) {
-                return false;
-            }
-            return true;
-        }
-        false
-    }
-
-    // The place of the oldest unblocked request of a kind (document 01, rules 2 and 4).
-    pub fn oldest(self, kind: Kind) -> Found
-        ensures { λ r. ⌜ r ≡ oldestOf kind (heldOf self) ⌝ }
-    {
-        let n = self.held();
-        let mut i = 0;
-        while i < n {
-            if self.ready(kind, i) {
-                return Found::At(i);
-            }
-            i += 1;
-        }
-        Found::Nothing
-    }
-
-    // Soundness, its part of the test for number 9: eight requests at most, and the cells of the queued ones lie in the geometry.
-    pub fn sound(self, g: Geometry) -> bool
+    // Soundness, half of the queue's part of the test for number 9: do the cells of the queued requests lie in the geometry? The count is tested
+    // before (`numbers::moving`).
+    pub fn inside(self, g: Geometry) -> bool
         requires { ⌜ Shaped g ⌝ }
-        ensures { λ r. ⌜ r ≡ soundQueue g self ⌝ }
+        requires { ⌜ self .count ≤ 8 ⌝ }
+        ensures { λ r. ⌜ r ≡ insideOf g (heldOf self) ⌝ }
     {
-        let n = self.count;
-        if 8 < n {
-            return false;
-        }
         let places = self.places;
-        inside(g, places, n)
+        all_inside(g, places, self.count)
     }
 }

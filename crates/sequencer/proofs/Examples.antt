@@ -18,7 +18,7 @@ use Rattle.ages.specs.Ages.{cap, firstRow, freshOf, openedOf, rowIn, rowAt, age
 use Rattle.queue.specs.declared.Kind.{Kind}
 use Rattle.queue.specs.declared.Request.{Request}
 use Rattle.queue.specs.declared.Queue.{Queue}
-use Rattle.queue.specs.Places.{emptyOf, acceptOf, removeOf, getOf, without}
+use Rattle.queue.specs.Places.{requestFor, emptyOf, acceptOf, removeOf, getOf, without}
 use Rattle.queue.specs.Oldest.{blockedOf, readyOf, oldestOf}
 use Rattle.queue.specs.Sound.{soundQueue}
 use Rattle.refresh.specs.declared.Counters.{Counters}
@@ -50,14 +50,13 @@ use Rattle.sequencer.specs.declared.Configured.{Configured}
 use Rattle.sequencer.specs.declared.Requested.{Requested}
 use Rattle.sequencer.specs.declared.Slot.{Slot}
 use Rattle.sequencer.specs.Machine.{blankOf, machineOf, stepOf}
-use Rattle.sequencer.specs.Sound.{fitOf, soundOf}
+use Rattle.numbers.specs.Sound.{fitBy, soundBy}
+use Rattle.numbers.specs.Numbers.{recordNumberBy, lastNumber, roomNumberOf, requestNumberBy}
+use Rattle.sequencer.specs.Sound.{soundOf}
 use Rattle.sequencer.specs.Calls.{
+  refusedWith,
   configuredBy,
   configureOf,
-  recordNumberOf,
-  lastNumber,
-  roomNumberOf,
-  requestNumberOf,
   queuedRequest,
   enqueuedOf,
   requestOf,
@@ -99,7 +98,7 @@ counted i b = record { interval = i; backlog = b }
 
 -- request n, of a cell, and of row 1, column 0
 abbrev askAt : Kind → ℕ → ℕ → ℕ → ℕ → ℕ → Request
-askAt k n a b r c = record { number = n; kind = k; address = a; cell = cellAt b r c; halfword = 7 }
+askAt k n a b r c = requestFor k n a (cellAt b r c) 7
 
 abbrev ask : Kind → ℕ → Request
 ask k n = askAt k n 512 0 1 0
@@ -305,7 +304,7 @@ record Examples : Type 0 where
         number = 0;
         request = 4294967295;
         machine = made e1 (known false) (counted 27 0) true
-            (acceptOf emptyOf (record { number = 4294967295; kind = Kind.Read; address = 262142; cell = cellAt 0 511 255; halfword = 0 }))
+            (acceptOf emptyOf (requestFor Kind.Read 4294967295 262142 (cellAt 0 511 255) 0))
             Turnaround 4294967295;
       }
   steps : map (λ r. slotOf (r .machine) (r .bus)) slots ≡ map (λ r. r .given) slots
@@ -314,5 +313,5 @@ record Examples : Type 0 where
       ≡ record { number = 9; backlog = 0 } ∷ record { number = 8; backlog = 0 } ∷ record { number = 0; backlog = 0 } ∷ record { number = 0; backlog = 15 } ∷ []
 
 examples : Examples
-unfolding sound unsound refusals slots configuredBy configureOf recordNumberOf roomNumberOf requestNumberOf queuedRequest enqueuedOf requestOf slotOf backlogOf blankOf machineOf stepOf configAccepted shapedOf distancesOf spannedOf fitOf soundOf soundAction soundQueue reservedMap reservedAll offeredOf geometryOf configOf checkedOf settingOf capacityOf cellOf holdsOf addressNumberOf allClosed marksOf rowOf legalOf requirements R7 R12-open R13-open R14 freshOf openedOf rowIn rowAt agedOf agesAfter sentOf carriedOf emptyOf acceptOf removeOf getOf without blockedOf readyOf oldestOf counting.startOf counting.tickOf counting.refreshedOf counting.soundCounters levelOf plan.quietly plan.outcomeOf plan.tries plan.rest plan.afterPause plan.afterInitRefresh plan.readPlan plan.writePlan plan.transferPlan plan.accessPlan plan.takenPlan plan.latencyPlan plan.cycleLeft plan.refreshPlan plan.planOf plan.queueAfter plan.countersAfter choice.rulesOf choice.choiceOf choice.currentOf tickedOf turnOf
+unfolding sound unsound refusals slots configuredBy configureOf recordNumberBy roomNumberOf requestNumberBy queuedRequest enqueuedOf requestOf refusedWith slotOf backlogOf blankOf machineOf stepOf configAccepted shapedOf distancesOf spannedOf fitBy soundBy soundAction soundQueue reservedMap reservedAll offeredOf geometryOf configOf checkedOf settingOf capacityOf cellOf holdsOf addressNumberOf allClosed marksOf rowOf legalOf requirements R7 R12-open R13-open R14 freshOf openedOf rowIn rowAt agedOf agesAfter sentOf carriedOf emptyOf acceptOf removeOf getOf without blockedOf readyOf oldestOf counting.startOf counting.tickOf counting.refreshedOf counting.soundCounters levelOf plan.quietly plan.outcomeOf plan.tries plan.rest plan.afterPause plan.afterInitRefresh plan.readPlan plan.writePlan plan.transferPlan plan.accessPlan plan.takenPlan plan.latencyPlan plan.cycleLeft plan.refreshPlan plan.planOf plan.queueAfter plan.countersAfter choice.rulesOf choice.choiceOf choice.currentOf tickedOf turnOf
 examples = record { soundness = refl; configured = refl; reads = refl; writes = refl; room = refl; last = refl; steps = refl; readings = refl }

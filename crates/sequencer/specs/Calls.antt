@@ -1,18 +1,18 @@
 -- The calls: for every input the number, the values and the record after it (document 01, "Numbers given back").
 use Prim.Native.Nat.{ℕ, _+_}
 use mathlib.Core.Bool.{cond}
-use lib.Dec.{eqb, leb}
+use lib.Dec.{eqb}
 use Rattle.config.specs.declared.Setting.{Setting}
 use Rattle.config.specs.Setting.{settingOf}
-use Rattle.address.specs.Map.{addressNumberOf, cellOf}
+use Rattle.address.specs.Map.{cellOf}
 use Rattle.command.specs.declared.Command.the-variants.{Nop}
 use Rattle.queue.specs.declared.Kind.{Kind}
 use Rattle.queue.specs.declared.Kind.the-variants.{Read, Write}
 use Rattle.queue.specs.declared.Request.{Request}
-use Rattle.queue.specs.Places.{acceptOf}
+use Rattle.queue.specs.Places.{requestFor, acceptOf}
 use Rattle.plan.specs.declared.Report.the-variants.{Nothing}
-use Rattle.sequencer.specs.Machine.{blankOf, machineOf, stepOf}
-use Rattle.sequencer.specs.Sound.{soundOf}
+use Rattle.numbers.specs.Numbers.{recordNumberBy, requestNumberBy}
+use Rattle.sequencer.specs.Machine.{machineWith, blankOf, machineOf, stepOf}
 use Rattle.sequencer.specs.declared.Machine.{Machine}
 use Rattle.sequencer.specs.declared.Configured.{Configured}
 use Rattle.sequencer.specs.declared.Requested.{Requested}
@@ -27,50 +27,24 @@ configuredBy s = cond (eqb (s .number) 0) (record { number = 0; machine = machin
 unfoldable pub configureOf : ℕ → ℕ → ℕ → ℕ → Configured
 configureOf cfg row ref tim = configuredBy (settingOf cfg row ref tim)
 
--- Every other call: 9 for an unsound record, then 8 for the blank machine.
-unfoldable pub recordNumberOf : Machine → ℕ
-recordNumberOf m = cond (soundOf m) (cond (m .configured) 0 8) 9
+-- Every other call: 9 for an unsound record, then 8 for the blank machine (`numbers`).
+abbrev pub recordNumberOf : Machine → ℕ
+recordNumberOf m = recordNumberBy (m .configured) (m .config) (m .past) (m .counters) (m .control) (m .queue)
 
 -- Requests: then 4 and 5 for the address, 6 for a full queue, 7 for the last number.
-
--- the most requests that are ever accepted
-abbrev pub lastNumber : ℕ
-lastNumber = 4294967295
-
-unfoldable pub roomNumberOf : Machine → ℕ
-roomNumberOf m = cond (leb 8 (m .queue .count)) 6 (cond (leb lastNumber (m .accepted)) 7 0)
-
-unfoldable pub requestNumberOf : Machine → ℕ → ℕ
-requestNumberOf m address =
-    cond (eqb (recordNumberOf m) 0)
-    (cond (eqb (addressNumberOf (m .config .geometry) address) 0) (roomNumberOf m) (addressNumberOf (m .config .geometry) address))
-    (recordNumberOf m)
+abbrev pub requestNumberOf : Machine → ℕ → ℕ
+requestNumberOf m address = requestNumberBy (m .configured) (m .config) (m .past) (m .counters) (m .control) (m .queue) (m .accepted) address
 
 -- a request that is accepted has the next number, and goes to the end of the queue
 unfoldable pub queuedRequest : Machine → Kind → ℕ → ℕ → Request
-queuedRequest m kind address halfword =
-    record {
-      number = m .accepted + 1;
-      kind = kind;
-      address = address;
-      cell = cellOf (m .config .geometry) address;
-      halfword = halfword;
-    }
+queuedRequest m kind address halfword = requestFor kind (m .accepted + 1) address (cellOf (m .config .geometry) address) halfword
 
 unfoldable pub enqueuedOf : Machine → Request → Requested
 enqueuedOf m r =
     record {
+      machine = machineWith (m .configured) (m .config) (m .past) (m .counters) (m .control) (acceptOf (m .queue) r) (r .number);
       number = 0;
       request = r .number;
-      machine = record {
-        configured = m .configured;
-        config = m .config;
-        past = m .past;
-        counters = m .counters;
-        control = m .control;
-        queue = acceptOf (m .queue) r;
-        accepted = r .number;
-      };
     }
 
 unfoldable pub requestOf : Machine → Kind → ℕ → ℕ → Requested
@@ -87,9 +61,11 @@ abbrev pub writeRequestOf : Machine → ℕ → ℕ → Requested
 writeRequestOf m address halfword = requestOf m Write address halfword
 
 -- The slot: refused, its command is NOP and it reports nothing.
+unfoldable pub refusedWith : Machine → ℕ → Slot
+refusedWith m number = record { machine = m; number = number; command = Nop; report = Nothing }
+
 unfoldable pub slotOf : Machine → ℕ → Slot
-slotOf m bus =
-    cond (eqb (recordNumberOf m) 0) (stepOf m bus) (record { number = recordNumberOf m; command = Nop; report = Nothing; machine = m })
+slotOf m bus = cond (eqb (recordNumberOf m) 0) (stepOf m bus) (refusedWith m (recordNumberOf m))
 
 -- The reading call: refused, it gives 0.
 unfoldable pub backlogOf : Machine → Reading

@@ -2,4 +2,3 @@
 pub mod Machine
 pub mod Sound
 pub mod Calls
-pub mod Steps

@@ -1,2 +1,2 @@
--- A slot's plan carried out on the past as it is kept.
+-- A slot's plan carried out, over a view of the past.
 pub mod Serve

@@ -1,5 +1,5 @@
-// Owns the code of a slot's plan (document 01, "Start" and "A service slot"; `plan` has the rules): the action's next command tried, and what follows.
-use ages::Attempt;
+// Owns the code of a slot's plan (document 01, "Start" and "A service slot"; `plan` has the rules): the action's next command if it is legal,
+// otherwise NOP, and what follows.
 use ages::Past;
 use command::Command;
 use config::Config;
@@ -7,14 +7,17 @@ use plan::Action;
 use plan::Outcome;
 use plan::Report;
 use queue::Kind;
-use queue::Queue;
 use queue::Request;
 use refresh::Counters;
 ghost use mathlib.Core.Path.{_≡_};
 ghost use Prim.Native.Nat.{_-_};
 ghost use Rattle.config.specs.Accepted.{Shaped};
-ghost use Rattle.ages.specs.Ages.{rowAt, sentOf};
+ghost use Rattle.ages.specs.Ages.{rowAt, byAges};
+ghost use Rattle.command.specs.declared.Command.the-variants.{Mrs};
+ghost use Rattle.plan.specs.declared.Action.the-variants.{InitMode, InitSettle};
 ghost use Rattle.plan.specs.Plan.{
+  tries,
+  modeWord,
   quietly,
   afterPause,
   afterInitRefresh,
@@ -24,14 +27,12 @@ ghost use Rattle.plan.specs.Plan.{
   transferPlan,
   accessPlan,
   refreshPlan,
-  queueAfter,
   countersAfter,
 };
-ghost use Rattle.service.specs.Serve.{carriedOut, performedOf, servedOf, restedOf, takenOf, latencyOf};
+ghost use Rattle.service.specs.Serve.{restOf, carriedBy, conductedOf, servesOf, takenOf, latencyOf};
 
-// What a slot gives: the past after it, its command, and what follows.
-pub struct Served {
-    pub past: Past,
+// A plan carried out: the slot's command, and what follows.
+pub struct Carried {
     pub command: Command,
     pub outcome: Outcome,
 }
@@ -50,16 +51,6 @@ fn quietly(action: Action) -> Outcome
     }
 }
 
-// The queue, without the request under way if it leaves.
-pub fn queue_after(queue: Queue, at: usize, leaves: bool) -> Queue
-    ensures { λ r. ⌜ r ≡ queueAfter queue at leaves ⌝ }
-{
-    if leaves {
-        return queue.remove(at);
-    }
-    queue
-}
-
 // The counters, after a REFR that was owed if one was sent.
 pub fn counters_after(n: Counters, refreshes: bool) -> Counters
     ensures { λ r. ⌜ r ≡ countersAfter n refreshes ⌝ }
@@ -70,46 +61,37 @@ pub fn counters_after(n: Counters, refreshes: bool) -> Counters
     n
 }
 
-// A slot. In what follows `next` is the past after a NOP.
+// A slot.
 
 // A NOP.
-fn rest(next: Past, action: Action) -> Served
-    ensures { λ r. ⌜ r ≡ restedOf next action ⌝ }
+fn rest(action: Action) -> Carried
+    ensures { λ r. ⌜ r ≡ restOf action ⌝ }
 {
     let outcome = quietly(action);
-    Served {
-        past: next,
+    Carried {
         command: Command::Nop,
         outcome,
     }
 }
 
-// A command that was tried: what follows is `sent` if it was legal, and `stays` if it wasn't.
-fn carried_out(attempt: Attempt, sent: Outcome, stays: Action) -> Served
-    ensures { λ r. ⌜ r ≡ carriedOut attempt sent stays ⌝ }
+// A command, and what follows it if it is legal; a NOP and the action that stays if it isn't.
+fn carried_out(legal: bool, command: Command, sent: Outcome, stays: Action) -> Carried
+    ensures { λ r. ⌜ r ≡ carriedBy legal command sent stays ⌝ }
 {
-    let past = attempt.past;
-    let command = attempt.command;
-    if attempt.sent {
-        return Served {
-            past,
+    if legal {
+        return Carried {
             command,
             outcome: sent,
         };
     }
-    let outcome = quietly(stays);
-    Served {
-        past,
-        command,
-        outcome,
-    }
+    rest(stays)
 }
 
 // Nothing but the next action follows.
-fn tried(attempt: Attempt, stays: Action, next: Action) -> Served
-    ensures { λ r. ⌜ r ≡ carriedOut attempt (quietly next) stays ⌝ }
+fn tried(legal: bool, command: Command, stays: Action, next: Action) -> Carried
+    ensures { λ r. ⌜ r ≡ carriedBy legal command (quietly next) stays ⌝ }
 {
-    carried_out(attempt, quietly(next), stays)
+    carried_out(legal, command, quietly(next), stays)
 }
 
 // The pause has so many slots left, this one included.
@@ -143,8 +125,8 @@ fn refresh_cycle(slots: u8) -> Action
 }
 
 // The slot of a read's halfword.
-fn taken(next: Past, r: Request, bus: u16) -> Served
-    ensures { λ e. ⌜ e ≡ takenOf next r bus ⌝ }
+fn taken(r: Request, bus: u16) -> Carried
+    ensures { λ e. ⌜ e ≡ takenOf r bus ⌝ }
 {
     let outcome = Outcome {
         action: Action::Turnaround,
@@ -152,134 +134,157 @@ fn taken(next: Past, r: Request, bus: u16) -> Served
         leaves: true,
         refreshes: false,
     };
-    Served {
-        past: next,
+    Carried {
         command: Command::Nop,
         outcome,
     }
 }
 
 // A slot after a READ.
-fn latency(next: Past, i: usize, left: u8, r: Request, bus: u16) -> Served
-    ensures { λ e. ⌜ e ≡ latencyOf next i left r bus ⌝ }
+fn latency(i: usize, left: u8, r: Request, bus: u16) -> Carried
+    ensures { λ e. ⌜ e ≡ latencyOf i left r bus ⌝ }
 {
     if left <= 1 {
-        return taken(next, r, bus);
+        return taken(r, bus);
     }
-    rest(next, Action::CasLatency(i, left - 1))
+    rest(Action::CasLatency(i, left - 1))
 }
 
 // The READ for the request r at place i.
-fn read(c: Config, p: Past, next: Past, i: usize, r: Request) -> Served
+fn read(c: Config, p: Past, i: usize, r: Request) -> Carried
     requires { ⌜ Shaped (c .geometry) ⌝ }
-    requires { ⌜ next ≡ sentOf p Command.Nop ⌝ }
-    ensures { λ e. ⌜ e ≡ performedOf c p (readPlan c i r) ⌝ }
+    ensures { λ e. ⌜ e ≡ conductedOf c (byAges c p) (readPlan c i r) ⌝ }
 {
-    let bank = r.cell.bank;
-    let column = r.cell.column;
-    let attempt = attempts::try_read(c, p, next, bank, column);
-    tried(attempt, Action::Access(i), Action::CasLatency(i, c.latency))
+    let bank = r.bank;
+    let column = r.column;
+    let legal = legality::read_legal(c, p, bank, column);
+    let command = Command::Read(bank, column);
+    tried(
+        legal,
+        command,
+        Action::Access(i),
+        Action::CasLatency(i, c.latency),
+    )
 }
 
 // The WRT for the request r at place i.
-fn write(c: Config, p: Past, next: Past, i: usize, r: Request) -> Served
+fn write(c: Config, p: Past, i: usize, r: Request) -> Carried
     requires { ⌜ Shaped (c .geometry) ⌝ }
-    requires { ⌜ next ≡ sentOf p Command.Nop ⌝ }
-    ensures { λ e. ⌜ e ≡ performedOf c p (writePlan i r) ⌝ }
+    ensures { λ e. ⌜ e ≡ conductedOf c (byAges c p) (writePlan i r) ⌝ }
 {
-    let bank = r.cell.bank;
-    let column = r.cell.column;
-    let attempt = attempts::try_wrt(c, p, next, bank, column, r.halfword);
+    let bank = r.bank;
+    let column = r.column;
+    let legal = legality::wrt_legal(c, p, bank, column);
+    let command = Command::Wrt(bank, column, r.halfword);
     let sent = Outcome {
         action: Action::Idle,
         report: Report::Write(r.number),
         leaves: true,
         refreshes: false,
     };
-    carried_out(attempt, sent, Action::Access(i))
+    carried_out(legal, command, sent, Action::Access(i))
 }
 
 // The READ or the WRT.
-fn transfer(c: Config, p: Past, next: Past, i: usize, r: Request, kind: Kind) -> Served
+fn transfer(c: Config, p: Past, i: usize, r: Request, kind: Kind) -> Carried
     requires { ⌜ Shaped (c .geometry) ⌝ }
-    requires { ⌜ next ≡ sentOf p Command.Nop ⌝ }
-    ensures { λ e. ⌜ e ≡ performedOf c p (transferPlan c i r kind) ⌝ }
+    ensures { λ e. ⌜ e ≡ conductedOf c (byAges c p) (transferPlan c i r kind) ⌝ }
 {
     match kind {
-        Kind::Read => read(c, p, next, i, r),
-        Kind::Write => write(c, p, next, i, r),
+        Kind::Read => read(c, p, i, r),
+        Kind::Write => write(c, p, i, r),
     }
 }
 
 // The access's next command: PRE, ACT, or READ or WRT.
-fn access(c: Config, p: Past, next: Past, i: usize, r: Request) -> Served
+fn access(c: Config, p: Past, i: usize, r: Request) -> Carried
     requires { ⌜ Shaped (c .geometry) ⌝ }
-    requires { ⌜ next ≡ sentOf p Command.Nop ⌝ }
-    ensures { λ e. ⌜ e ≡ performedOf c p (accessPlan c (rowAt p (r .cell .bank .0)) i r) ⌝ }
+    ensures { λ e. ⌜ e ≡ conductedOf c (byAges c p) (accessPlan c (rowAt p (r .bank .0)) i r) ⌝ }
 {
-    let bank = r.cell.bank;
-    let row = r.cell.row;
+    let bank = r.bank;
+    let row = r.row;
     let here = Action::Access(i);
     if ages::is_open(p, bank) {
         let opened = ages::row_in(p, bank);
         if opened.0 == row.0 {
             let kind = r.kind;
-            return transfer(c, p, next, i, r, kind);
+            return transfer(c, p, i, r, kind);
         }
-        return tried(attempts::try_pre(c, p, next, bank), here, here);
+        return tried(
+            legality::pre_legal(c, p, bank),
+            Command::Pre(bank),
+            here,
+            here,
+        );
     }
-    tried(attempts::try_act(c, p, next, bank, row), here, here)
+    tried(
+        legality::act_legal(c, p, bank, row),
+        Command::Act(bank, row),
+        here,
+        here,
+    )
 }
 
 // The REFR of a refresh.
-fn refresh_slot(c: Config, p: Past, next: Past) -> Served
-    requires { ⌜ next ≡ sentOf p Command.Nop ⌝ }
-    ensures { λ e. ⌜ e ≡ performedOf c p (refreshPlan c) ⌝ }
+fn refresh_slot(c: Config, p: Past) -> Carried
+    ensures { λ e. ⌜ e ≡ conductedOf c (byAges c p) (refreshPlan c) ⌝ }
 {
-    let attempt = attempts::try_refr(c, p, next);
+    let legal = legality::refr_legal(c, p);
     let sent = Outcome {
         action: refresh_cycle(c.rfc),
         report: Report::Nothing,
         leaves: false,
         refreshes: true,
     };
-    carried_out(attempt, sent, Action::Refresh)
+    carried_out(legal, Command::Refr, sent, Action::Refresh)
+}
+
+// The MRS of the initialisation.
+fn mode_slot(c: Config, p: Past) -> Carried
+    ensures { λ e. ⌜ e ≡ conductedOf c (byAges c p) (tries (Mrs (modeWord c)) InitMode InitSettle) ⌝ }
+{
+    let word = 16 * (c.latency as u16);
+    let legal = legality::mrs_legal(c, p, word);
+    tried(
+        legal,
+        Command::Mrs(word),
+        Action::InitMode,
+        Action::InitSettle,
+    )
 }
 
 // The slot of an action; r is the request under way, and `bus` the halfword that the bus carries.
-pub fn serve(c: Config, p: Past, r: Request, action: Action, bus: u16) -> Served
+pub fn serve(c: Config, p: Past, r: Request, action: Action, bus: u16) -> Carried
     requires { ⌜ Shaped (c .geometry) ⌝ }
-    ensures { λ e. ⌜ e ≡ servedOf c p r action bus ⌝ }
+    ensures { λ e. ⌜ e ≡ servesOf c (byAges c p) r action bus ⌝ }
 {
-    let next = ages::rested(p);
     match action {
-        Action::PowerUp(n) => rest(next, after_pause(n)),
+        Action::PowerUp(n) => rest(after_pause(n)),
         Action::InitPrecharge => tried(
-            attempts::try_deac(c, p, next),
+            legality::deac_legal(c, p),
+            Command::Deac,
             Action::InitPrecharge,
             Action::InitRefresh(8),
         ),
         Action::InitRefresh(n) => tried(
-            attempts::try_refr(c, p, next),
+            legality::refr_legal(c, p),
+            Command::Refr,
             Action::InitRefresh(n),
             after_init_refresh(n),
         ),
-        Action::InitMode => tried(
-            attempts::try_mrs(c, p, next, 16 * (c.latency as u16)),
-            Action::InitMode,
-            Action::InitSettle,
-        ),
-        Action::InitSettle => rest(next, Action::Idle),
-        Action::Idle => rest(next, Action::Idle),
-        Action::Access(i) => access(c, p, next, i, r),
-        Action::CasLatency(i, left) => latency(next, i, left, r, bus),
-        Action::Turnaround => rest(next, Action::Idle),
+        Action::InitMode => mode_slot(c, p),
+        Action::InitSettle => rest(Action::Idle),
+        Action::Idle => rest(Action::Idle),
+        Action::Access(i) => access(c, p, i, r),
+        Action::CasLatency(i, left) => latency(i, left, r, bus),
+        Action::Turnaround => rest(Action::Idle),
         Action::PrechargeAll => tried(
-            attempts::try_deac(c, p, next),
+            legality::deac_legal(c, p),
+            Command::Deac,
             Action::PrechargeAll,
             Action::Refresh,
         ),
-        Action::Refresh => refresh_slot(c, p, next),
-        Action::RefreshCycle(left) => rest(next, refresh_cycle(left)),
+        Action::Refresh => refresh_slot(c, p),
+        Action::RefreshCycle(left) => rest(refresh_cycle(left)),
     }
 }

@@ -18,7 +18,7 @@ use Rattle.queue.specs.declared.Found.{Found}
 use Rattle.queue.specs.declared.Found.the-variants.{At}
 use Rattle.queue.specs.declared.Queue.{Queue}
 use Rattle.queue.specs.declared.Request.{Request}
-use Rattle.queue.specs.Places.{heldOf, noRequest, emptyOf, acceptOf}
+use Rattle.queue.specs.Places.{requestFor, heldOf, noRequest, emptyOf, acceptOf}
 use Rattle.queue.specs.Oldest.{oldestOf}
 use Rattle.queue.proofs.Order.{Each, none, more, Servable}
 use Rattle.queue.proofs.Consistent.{applied, Consistent, same}
@@ -79,7 +79,7 @@ put-other f at v n e = rw (ne-eqb n at e)
 
 -- the request that an accepted call queues
 abbrev pub requestAs : Geometry → ℕ → Kind → ℕ → ℕ → Request
-requestAs g n kind address halfword = record { number = n; kind = kind; address = address; cell = cellOf g address; halfword = halfword }
+requestAs g n kind address halfword = requestFor kind n address (cellOf g address) halfword
 
 module _ {g : Geometry} {q : Queue} {a : Action} {n : ℕ} {d : Sdram} {f : Flat} {reported : List ℕ} (o : Ordered g q a n d f reported)
     (kind : Kind) (address halfword : ℕ) (room : q .count < 8) where

@@ -27,7 +27,7 @@ use Rattle.ages.proofs.Agree.{Agrees, same-verdict}
 use Rattle.queue.specs.declared.Kind.{Kind}
 use Rattle.queue.specs.declared.Queue.{Queue}
 use Rattle.queue.specs.declared.Request.{Request}
-use Rattle.queue.specs.Places.{heldOf, noRequest, getOf, removeOf, without}
+use Rattle.queue.specs.Places.{cellHeld, heldOf, noRequest, getOf, removeOf, without}
 use Rattle.queue.proofs.Order.{Each, Servable}
 use Rattle.queue.proofs.Consistent.{applied, ReadsRight, Consistent}
 use Rattle.queue.proofs.Each.{each-without, each-at, each-map}
@@ -69,13 +69,11 @@ use Rattle.plan.specs.Plan.{
   planOf,
   queueAfter,
 }
-use Rattle.service.specs.declared.Served.{Served}
-use Rattle.service.specs.Serve.{performedOf, servedOf}
 use Rattle.model.specs.Sdram.{Sdram, drivenIn, openCell, takes, sdramAfter}
 use Rattle.model.specs.Flat.{Flat}
 use Rattle.model.specs.World.{World, busOf, reportedAfter}
 use Rattle.model.specs.Condition.{Named, Reports}
-use Rattle.model.proofs.Plans.{sending, performed-both, rest-only}
+use Rattle.model.proofs.Plans.{Served, performedOf, servedOf, sending, performed-both, rest-only}
 use Rattle.model.proofs.Invariant.{Ok, Good, seen, Coming, Doing, Ordered}
 use Rattle.model.proofs.Order.Queue.{each-both, ordered-kept}
 use Rattle.model.proofs.Order.Cells.{
@@ -168,8 +166,8 @@ unfolding busOf
 bus-carries w any h e = rw e
 
 -- a bank of the geometry is one of the four
-bank-four : (c : Config) → Accepted c → (r : Request) → Good (c .geometry) r → r .cell .bank .0 < 4
-bank-four c u r h = rw (h .cell) (omega (arith, cell-within (c .geometry) (r .address) (h .ok .1) .bank, pow-mono (u .shaped .banks-most)))
+bank-four : (c : Config) → Accepted c → (r : Request) → Good (c .geometry) r → r .bank .0 < 4
+bank-four c u r h = rw (ap (λ x. x .bank) (h .cell)) (omega (arith, cell-within (c .geometry) (r .address) (h .ok .1) .bank, pow-mono (u .shaped .banks-most)))
 
 -- a command that is legal by the ages is taken
 pub takes-legal : {c : Config} {p : Past} (d : Sdram) → Accepted c → Agrees p (d .log) → (k : Command) → legalOf c (byAges c p) k ≡ true → takes c d k ≡ true
@@ -178,14 +176,14 @@ takes-legal d u v k l = sym (same-verdict u v k) ∙ l
 
 -- a read's READ and a write's WRT
 abbrev readFor : Request → Command
-readFor r = Command.Read (r .cell .bank) (r .cell .column)
+readFor r = Command.Read (r .bank) (r .column)
 
 abbrev writeFor : Request → Command
-writeFor r = Wrt (r .cell .bank) (r .cell .column) (r .halfword)
+writeFor r = Wrt (r .bank) (r .column) (r .halfword)
 
 -- the cell that these go to is the one of the request's address
 abbrev Open : Geometry → Sdram → Request → Type 0
-Open g d r = openCell (openRow (d .log .past) (r .cell .bank .0)) (r .cell .bank) (r .cell .column) ≡ some (cellOf g (r .address))
+Open g d r = openCell (openRow (d .log .past) (r .bank .0)) (r .bank) (r .column) ≡ some (cellOf g (r .address))
 
 -- what does not look at the SDRAM
 abbrev Steady : Queue → Flat → Action → Type 0
@@ -217,9 +215,9 @@ module _ {c : Config} {p : Past} {q : Queue} {a : Action} {n : ℕ} {d : Sdram} 
   rest-fine : (next : Action) → Doing q (sdramAfter c d Nop) f next → Fine (performedOf c p (rest next))
   rest-fine next i = rest-only c p Fine next (quiet-fine Nop next tt i)
 
-  attempt-fine : (k : Command) (stays next : Action) → Unwritten k → Steady q f stays → Steady q f next → Fine (performedOf c p (tries k stays next))
+  tried-fine : (k : Command) (stays next : Action) → Unwritten k → Steady q f stays → Steady q f next → Fine (performedOf c p (tries k stays next))
   unfolding tries
-  attempt-fine k stays next h i j =
+  tried-fine k stays next h i j =
       performed-both c p Fine (tries k stays next)
       (λ l. quiet-fine k next h (j (sdramAfter c d k)))
       (λ l. quiet-fine Nop stays tt (i (sdramAfter c d Nop)))
@@ -281,9 +279,9 @@ module _ {c : Config} {p : Past} {q : Queue} {a : Action} {n : ℕ} {d : Sdram} 
       (λ h. rest-fine (CasLatency at (left - 1)) (waits left (leb-false left 1 h) k))
 
   -- an access whose row is open: its cell is the open one
-  here-open : (r : Request) → Good (c .geometry) r → {x : Row} → rowAt p (r .cell .bank .0) ≡ some x → eqb (x .0) (r .cell .row .0) ≡ true
+  here-open : (r : Request) → Good (c .geometry) r → {x : Row} → rowAt p (r .bank .0) ≡ some x → eqb (x .0) (r .row .0) ≡ true
       → Open (c .geometry) d r
-  here-open r h opened row = open-cell v (r .cell) (bank-four c ok r h) opened row ∙ ap some (h .cell)
+  here-open r h opened row = open-cell v (cellHeld r) (bank-four c ok r h) opened row ∙ ap some (h .cell)
 
   -- the request under way
   abbrev r : Request
@@ -304,7 +302,7 @@ module _ {c : Config} {p : Past} {q : Queue} {a : Action} {n : ℕ} {d : Sdram} 
             rw (
               ← held,
               now-after c d (readFor r),
-              driven-read c d (r .cell .bank) (r .cell .column) (cellOf (c .geometry) (r .address)) t x,
+              driven-read c d (r .bank) (r .column) (cellOf (c .geometry) (r .address)) t x,
               eq-eqb (d .log .now + c .latency) (suc (d .log .now) + c .latency - 1) (omega arith),
             )
             (ap some (sym (answered o s r held k)));
@@ -324,7 +322,7 @@ module _ {c : Config} {p : Past} {q : Queue} {a : Action} {n : ℕ} {d : Sdram} 
   write-served h k x l y i =
       let t = takes-legal d ok v (writeFor r) l in
       rw (
-        cells-written c d (r .cell .bank) (r .cell .column) (r .halfword) (cellOf (c .geometry) (r .address)) t x,
+        cells-written c d (r .bank) (r .column) (r .halfword) (cellOf (c .geometry) (r .address)) t x,
         served-write (seen (c .geometry) (d .cells)) r k,
       )
       (sym (seen-stored (c .geometry) (d .cells) (r .address) (r .halfword) y (h .ok .0) (i .0)))
@@ -345,16 +343,16 @@ module _ {c : Config} {p : Past} {q : Queue} {a : Action} {n : ℕ} {d : Sdram} 
   transfer-fine s Kind.Read k x = read-fine s k x
   transfer-fine s Kind.Write k x = write-fine s k x
 
-  access-fine : Servable (heldOf q) at → Fine (performedOf c p (accessPlan c (rowAt p (r .cell .bank .0)) at r))
+  access-fine : Servable (heldOf q) at → Fine (performedOf c p (accessPlan c (rowAt p (r .bank .0)) at r))
   unfolding accessPlan
-  access-fine s = go (rowAt p (r .cell .bank .0)) refl
+  access-fine s = go (rowAt p (r .bank .0)) refl
     where
-      go : (x : Option Row) → rowAt p (r .cell .bank .0) ≡ x → Fine (performedOf c p (accessPlan c x at r))
-      go none e = attempt-fine (Act (r .cell .bank) (r .cell .row)) (Access at) (Access at) tt (λ y. s) (λ y. s)
+      go : (x : Option Row) → rowAt p (r .bank .0) ≡ x → Fine (performedOf c p (accessPlan c x at r))
+      go none e = tried-fine (Act (r .bank) (r .row)) (Access at) (Access at) tt (λ y. s) (λ y. s)
       go (some x) e =
-          if-both (λ y. Fine (performedOf c p y)) (eqb (x .0) (r .cell .row .0))
+          if-both (λ y. Fine (performedOf c p y)) (eqb (x .0) (r .row .0))
           (λ t. transfer-fine s (r .kind) refl (here-open r (its o s r held (o .good)) e t))
-          (λ t. attempt-fine (Pre (r .cell .bank)) (Access at) (Access at) tt (λ y. s) (λ y. s))
+          (λ t. tried-fine (Pre (r .bank)) (Access at) (Access at) tt (λ y. s) (λ y. s))
 
 module _ {c : Config} {p : Past} {q : Queue} {n : ℕ} {d : Sdram} {f : Flat} {reported : List ℕ} (ok : Accepted c) (v : Agrees p (d .log)) (bus : ℕ) (w : Carries d bus) where
   -- A slot, whatever the action under way: order and memory stand, and its report is right.
@@ -362,14 +360,14 @@ module _ {c : Config} {p : Past} {q : Queue} {n : ℕ} {d : Sdram} {f : Flat} {r
       → Acted c n q (underWay a) d f reported (servedOf c p (getOf q (underWay a)) a bus)
   unfolding servedOf planOf
   ordered-act (PowerUp k) o = rest-fine ok v o 0 (afterPause k) (pause-steady q f k (sdramAfter c d Nop))
-  ordered-act InitPrecharge o = attempt-fine ok v o 0 Deac InitPrecharge (InitRefresh 8) tt (λ x. tt) (λ x. tt)
-  ordered-act (InitRefresh k) o = attempt-fine ok v o 0 Refr (InitRefresh k) (afterInitRefresh k) tt (λ x. tt) (refreshes-steady q f k)
-  ordered-act InitMode o = attempt-fine ok v o 0 (Mrs (modeWord c)) InitMode InitSettle tt (λ x. tt) (λ x. tt)
+  ordered-act InitPrecharge o = tried-fine ok v o 0 Deac InitPrecharge (InitRefresh 8) tt (λ x. tt) (λ x. tt)
+  ordered-act (InitRefresh k) o = tried-fine ok v o 0 Refr (InitRefresh k) (afterInitRefresh k) tt (λ x. tt) (refreshes-steady q f k)
+  ordered-act InitMode o = tried-fine ok v o 0 (Mrs (modeWord c)) InitMode InitSettle tt (λ x. tt) (λ x. tt)
   ordered-act InitSettle o = rest-fine ok v o 0 Idle tt
   ordered-act Idle o = rest-fine ok v o 0 Idle tt
   ordered-act (Access i) o = access-fine ok v o i (o .doing)
   ordered-act (CasLatency i left) o = latency-fine ok v o i left bus (o .doing) w
   ordered-act Turnaround o = rest-fine ok v o 0 Idle tt
-  ordered-act PrechargeAll o = attempt-fine ok v o 0 Deac PrechargeAll Refresh tt (λ x. tt) (λ x. tt)
+  ordered-act PrechargeAll o = tried-fine ok v o 0 Deac PrechargeAll Refresh tt (λ x. tt) (λ x. tt)
   ordered-act Refresh o = refresh-fine ok v o 0
   ordered-act (RefreshCycle left) o = rest-fine ok v o 0 (cycleLeft (left - 1)) (cycle-steady q f (left - 1) (sdramAfter c d Nop))

@@ -38,7 +38,7 @@ use Rattle.ages.proofs.Slot.{Aged, sent-age, sent-row, aged-sent}
 use Rattle.queue.specs.declared.Kind.{Kind}
 use Rattle.queue.specs.declared.Queue.{Queue}
 use Rattle.queue.specs.declared.Request.{Request}
-use Rattle.queue.specs.Places.{getOf}
+use Rattle.queue.specs.Places.{cellHeld, getOf}
 use Rattle.refresh.specs.declared.Counters.{Counters}
 use Rattle.refresh.specs.Counting.{refreshedOf}
 use Rattle.plan.specs.declared.Action.{Action}
@@ -74,10 +74,8 @@ use Rattle.plan.specs.Plan.{
   queueAfter,
   countersAfter,
 }
-use Rattle.service.specs.declared.Served.{Served}
-use Rattle.service.specs.Serve.{performedOf, servedOf}
 use Rattle.model.specs.Condition.{isRefr}
-use Rattle.model.proofs.Plans.{sending, performed-both, rest-only}
+use Rattle.model.proofs.Plans.{Served, performedOf, servedOf, sending, performed-both, rest-only}
 use Rattle.model.proofs.Invariant.{
   short,
   bankHeld,
@@ -122,7 +120,7 @@ Placed c q (InitRefresh n) = Unit {0}
 Placed c q InitMode = Unit {0}
 Placed c q InitSettle = Unit {0}
 Placed c q Idle = Unit {0}
-Placed c q (Access i) = Holds (c .geometry) (getOf q i .cell)
+Placed c q (Access i) = Holds (c .geometry) (cellHeld (getOf q i))
 Placed c q (CasLatency i left) = Unit {0}
 Placed c q Turnaround = Unit {0}
 Placed c q PrechargeAll = Unit {0}
@@ -188,16 +186,16 @@ bank-four ok h = omega (arith, h .bank, pow-mono (ok .shaped .banks-most))
 
 module _ (c : Config) (p : Past) (r : Request) where
   abbrev at : ℕ
-  at = r .cell .bank .0
+  at = r .bank .0
 
-  left-transfer : {x : Row} → rowAt p at ≡ some x → eqb (x .0) (r .cell .row .0) ≡ true → accessLeft c p r ≡ transferLeft c p (r .kind) at
+  left-transfer : {x : Row} → rowAt p at ≡ some x → eqb (x .0) (r .row .0) ≡ true → accessLeft c p r ≡ transferLeft c p (r .kind) at
   unfolding accessLeft
   left-transfer o e = rw (o, e)
 
-  left-kind : {kind : Kind} {x : Row} → r .kind ≡ kind → rowAt p at ≡ some x → eqb (x .0) (r .cell .row .0) ≡ true → accessLeft c p r ≡ transferLeft c p kind at
+  left-kind : {kind : Kind} {x : Row} → r .kind ≡ kind → rowAt p at ≡ some x → eqb (x .0) (r .row .0) ≡ true → accessLeft c p r ≡ transferLeft c p kind at
   left-kind t o e = left-transfer o e ∙ ap (λ (kind : Kind). transferLeft c p kind at) t
 
-  left-precharge : {x : Row} → rowAt p at ≡ some x → eqb (x .0) (r .cell .row .0) ≡ false → accessLeft c p r ≡ prechargeLeft c p at
+  left-precharge : {x : Row} → rowAt p at ≡ some x → eqb (x .0) (r .row .0) ≡ false → accessLeft c p r ≡ prechargeLeft c p at
   unfolding accessLeft
   left-precharge o e = rw (o, e)
 
@@ -331,12 +329,12 @@ module _ {c : Config} (ok : Accepted c) (p : Past) (programmed : p .programmed �
       (quiet-advances Nop (CasLatency i (left - 1)) refl refl (rested ok p Nop refl h, omega arith) (omega arith) (omega arith) (λ o. o)))
 
   -- an access
-  module _ (i : ℕ) (h : c .rfc ≤ ageOf p refreshCycle) (inside : Holds (c .geometry) (getOf q i .cell)) where
+  module _ (i : ℕ) (h : c .rfc ≤ ageOf p refreshCycle) (inside : Holds (c .geometry) (cellHeld (getOf q i))) where
     abbrev r : Request
     r = getOf q i
 
     abbrev b : ℕ
-    b = r .cell .bank .0
+    b = r .bank .0
 
     four : b < 4
     four = bank-four ok inside
@@ -352,8 +350,8 @@ module _ {c : Config} (ok : Accepted c) (p : Past) (programmed : p .programmed �
     unfolding marksOf
     access-waits left = quiet-advances Nop (Access i) refl refl (rested ok p Nop refl h) left (omega arith) (λ o. o)
 
-    precharge-access : {x : Row} → rowAt p b ≡ some x → eqb (x .0) (r .cell .row .0) ≡ false
-        → Advanced c p q (Access i) n (performedOf c p (tries (Pre (r .cell .bank)) (Access i) (Access i)))
+    precharge-access : {x : Row} → rowAt p b ≡ some x → eqb (x .0) (r .row .0) ≡ false
+        → Advanced c p q (Access i) n (performedOf c p (tries (Pre (r .bank)) (Access i) (Access i)))
     unfolding tries marksOf prechargeLeft activateLeft
     precharge-access o e =
         performed-both c p (Advanced c p q (Access i) n) (tries k (Access i) (Access i))
@@ -362,7 +360,7 @@ module _ {c : Config} (ok : Accepted c) (p : Past) (programmed : p .programmed �
         (omega (
           arith,
           left-precharge c p r o e,
-          left-activate c (sentOf p k) r (pre-row p (r .cell .bank) four),
+          left-activate c (sentOf p k) r (pre-row p (r .bank) four),
           short-new c p k (rowPrecharge b) four (eq-eqb b b refl),
           short-falls ok p k (rowCycle b) four refl .by,
           others-fall ok p k b (λ x. refl) .by,
@@ -370,7 +368,7 @@ module _ {c : Config} (ok : Accepted c) (p : Past) (programmed : p .programmed �
         ))
         (omega arith) (λ x. x))
         (λ l.
-        let w : 1 ≤ bankHeld c p b = waits (bankHeld c p b) (pre-ready c p ready (r .cell .bank) (inside .bank) (ap {A = Option Row} isSome o)) l in
+        let w : 1 ≤ bankHeld c p b = waits (bankHeld c p b) (pre-ready c p ready (r .bank) (inside .bank) (ap {A = Option Row} isSome o)) l in
         access-waits
         (omega (
           arith,
@@ -382,19 +380,19 @@ module _ {c : Config} (ok : Accepted c) (p : Past) (programmed : p .programmed �
         )))
       where
         k : Command
-        k = Pre (r .cell .bank)
+        k = Pre (r .bank)
 
     -- after its ACT a read or a write takes tRCD + CL + 1 slots at most
-    opened-left : (p' : Past) → rowAt p' b ≡ some (r .cell .row) → short c p' (rowToColumn b) ≡ c .rcd - 1 → short c p' readToWrite + 1 ≤ c .latency + 2
+    opened-left : (p' : Past) → rowAt p' b ≡ some (r .row) → short c p' (rowToColumn b) ≡ c .rcd - 1 → short c p' readToWrite + 1 ≤ c .latency + 2
         → accessLeft c p' r ≤ c .rcd + c .latency + 1
     unfolding transferLeft
-    opened-left p' o new s = rw (left-transfer c p' r o (eq-eqb (r .cell .row .0) (r .cell .row .0) refl)) (go (r .kind))
+    opened-left p' o new s = rw (left-transfer c p' r o (eq-eqb (r .row .0) (r .row .0) refl)) (go (r .kind))
       where
         go : (kind : Kind) → transferLeft c p' kind b ≤ c .rcd + c .latency + 1
         go Kind.Read = omega (arith, ok .rcd-least)
         go Kind.Write = omega (arith, ok .rcd-least)
 
-    activate-access : rowAt p b ≡ none → Advanced c p q (Access i) n (performedOf c p (tries (Act (r .cell .bank) (r .cell .row)) (Access i) (Access i)))
+    activate-access : rowAt p b ≡ none → Advanced c p q (Access i) n (performedOf c p (tries (Act (r .bank) (r .row)) (Access i) (Access i)))
     unfolding tries marksOf activateLeft
     activate-access o =
         performed-both c p (Advanced c p q (Access i) n) (tries k (Access i) (Access i))
@@ -404,7 +402,7 @@ module _ {c : Config} (ok : Accepted c) (p : Past) (programmed : p .programmed �
         quiet-advances k (Access i) refl refl (rested ok p k refl h) (omega (arith, left-activate c p r o)) (omega arith) (λ x. x))
         (λ l.
         let w : 1 ≤ short c p (rowPrecharge b) + short c p (rowCycle b) + othersHeld c p b
-        = waits _ (λ z. act-ready c p ready (r .cell .bank) (r .cell .row) (inside .bank) (inside .row) programmed (ap {A = Option Row} isSome o) (omega arith) (omega arith) (omega arith)) l in
+        = waits _ (λ z. act-ready c p ready (r .bank) (r .row) (inside .bank) (inside .row) programmed (ap {A = Option Row} isSome o) (omega arith) (omega arith) (omega arith)) l in
         access-waits
         (omega (
           arith,
@@ -416,9 +414,9 @@ module _ {c : Config} (ok : Accepted c) (p : Past) (programmed : p .programmed �
         )))
       where
         k : Command
-        k = Act (r .cell .bank) (r .cell .row)
+        k = Act (r .bank) (r .row)
 
-    module _ {x : Row} (o : rowAt p b ≡ some x) (e : eqb (x .0) (r .cell .row .0) ≡ true) where
+    module _ {x : Row} (o : rowAt p b ≡ some x) (e : eqb (x .0) (r .row .0) ≡ true) where
       opened : isSome (rowAt p b) ≡ true
       opened = ap {A = Option Row} isSome o
 
@@ -432,11 +430,11 @@ module _ {c : Config} (ok : Accepted c) (p : Past) (programmed : p .programmed �
           quiet-advances k (CasLatency i (c .latency)) refl refl (rested ok p k refl h, omega (arith, ok .latency-least)) (omega arith) (omega arith) (λ x. x))
           (λ l.
           let w : 1 ≤ short c p (rowToColumn b)
-          = waits _ (read-ready c p ready (r .cell .bank) (r .cell .column) (inside .bank) (inside .column) opened) l in
+          = waits _ (read-ready c p ready (r .bank) (r .column) (inside .bank) (inside .column) opened) l in
           access-waits (omega (arith, short-falls ok p Nop (rowToColumn b) four refl .by)))
         where
           k : Command
-          k = Read (r .cell .bank) (r .cell .column)
+          k = Read (r .bank) (r .column)
 
       write-access : r .kind ≡ Kind.Write → Advanced c p q (Access i) n (performedOf c p (writePlan i r))
       unfolding writePlan marksOf transferLeft queueAfter countersAfter
@@ -454,12 +452,12 @@ module _ {c : Config} (ok : Accepted c) (p : Past) (programmed : p .programmed �
           })
           (λ l.
           let w : 1 ≤ short c p (rowToColumn b) + short c p readToWrite
-          = waits _ (λ z. wrt-ready c p ready (r .cell .bank) (r .cell .column) (r .halfword) (inside .bank) (inside .column) opened (omega arith) (omega arith)) l in
+          = waits _ (λ z. wrt-ready c p ready (r .bank) (r .column) (r .halfword) (inside .bank) (inside .column) opened (omega arith) (omega arith)) l in
           let f = short-falls ok p Nop readToWrite tt refl in
           access-waits (omega (arith, short-falls ok p Nop (rowToColumn b) four refl .by)))
         where
           k : Command
-          k = Wrt (r .cell .bank) (r .cell .column) (r .halfword)
+          k = Wrt (r .bank) (r .column) (r .halfword)
 
       transfer-access : Advanced c p q (Access i) n (performedOf c p (transferPlan c i r (r .kind)))
       unfolding transferPlan
@@ -476,7 +474,7 @@ module _ {c : Config} (ok : Accepted c) (p : Past) (programmed : p .programmed �
         go : (x : Option Row) → rowAt p b ≡ x → Advanced c p q (Access i) n (performedOf c p (accessPlan c x i r))
         go none o = activate-access o
         go (some x) o =
-            if-both (λ y. Advanced c p q (Access i) n (performedOf c p y)) (eqb (x .0) (r .cell .row .0)) (λ e. transfer-access o e) (λ e. precharge-access o e)
+            if-both (λ y. Advanced c p q (Access i) n (performedOf c p y)) (eqb (x .0) (r .row .0)) (λ e. transfer-access o e) (λ e. precharge-access o e)
 
 -- a slot of an action under way
 pub act-advances : {c : Config} → Accepted c → {p : Past} → p .programmed ≡ true → 2 ≤ ageOf p modeRegister → (q : Queue) (a : Action)
@@ -534,7 +532,7 @@ access-bound {c} ok {p} aged q i h = go (rowAt p b)
     Bound x = x + 3 ≤ c .access
 
     b : ℕ
-    b = getOf q i .cell .bank .0
+    b = getOf q i .bank .0
 
     four : b < 4
     four = bank-four ok h
@@ -542,4 +540,4 @@ access-bound {c} ok {p} aged q i h = go (rowAt p b)
     go : (x : Option Row) → Bound (rowLeft c p x (getOf q i))
     go none = activate-bound ok aged b four
     go (some x) =
-        if-both Bound (eqb (x .0) (getOf q i .cell .row .0)) (λ e. transfer-bound ok aged b four (getOf q i .kind)) (λ e. precharge-bound ok aged b four)
+        if-both Bound (eqb (x .0) (getOf q i .row .0)) (λ e. transfer-bound ok aged b four (getOf q i .kind)) (λ e. precharge-bound ok aged b four)

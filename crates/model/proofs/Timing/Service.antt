@@ -20,7 +20,7 @@ use Rattle.queue.specs.declared.Queue.{Queue}
 use Rattle.queue.specs.declared.Request.{Request}
 use Rattle.queue.specs.declared.Found.{Found}
 use Rattle.queue.specs.declared.Found.the-variants.{At, Nothing}
-use Rattle.queue.specs.Places.{heldOf, getOf, acceptOf}
+use Rattle.queue.specs.Places.{cellHeld, heldOf, getOf, acceptOf}
 use Rattle.queue.proofs.Order.{Each}
 use Rattle.queue.specs.Oldest.{oldestOf}
 use Rattle.queue.proofs.Each.{each-at}
@@ -52,12 +52,10 @@ use Rattle.plan.specs.declared.Control.{Control}
 use Rattle.plan.specs.Actions.{isIdle, underWay}
 use Rattle.plan.specs.Plan.{quietly, rest, planOf, queueAfter, countersAfter}
 use Rattle.plan.specs.Choice.{Choice, accessOr, needs, idleRefresh, rulesOf, choiceOf, currentOf}
-use Rattle.service.specs.declared.Served.{Served}
-use Rattle.service.specs.Serve.{performedOf, servedOf}
 use Rattle.model.specs.Sdram.{Sdram}
 use Rattle.model.specs.Flat.{Flat}
 use Rattle.model.specs.Condition.{isRefr}
-use Rattle.model.proofs.Plans.{rest-only}
+use Rattle.model.proofs.Plans.{Served, performedOf, servedOf, rest-only}
 use Rattle.model.proofs.Invariant.{Good, Doing, leftOf, needOf, Settled, Owing, Timely}
 use Rattle.model.proofs.Timing.Actions.{Placed, queueLeft, Backlog, stays, falls, Advanced, programmed-sent, mode-sent, rested, act-advances, refresh-bound, access-bound}
 
@@ -78,7 +76,7 @@ Queued q (RefreshCycle left) = Unit {0}
 
 -- every queued request has a cell of the geometry
 pub record AllPlaced (c : Config) (q : Queue) : Type 0 where
-  pub inside : (i : ℕ) → i < q .count → Holds (c .geometry) (getOf q i .cell)
+  pub inside : (i : ℕ) → i < q .count → Holds (c .geometry) (cellHeld (getOf q i))
 
 placed-queued : {c : Config} {q : Queue} → AllPlaced c q → (a : Action) → Queued q a → Placed c q a
 placed-queued all (PowerUp k) h = tt
@@ -98,7 +96,7 @@ placed-queued all (RefreshCycle left) h = tt
 pub all-placed : {c : Config} {q : Queue} → Tidy q → Each (Good (c .geometry)) (heldOf q) → AllPlaced c q
 all-placed {c} {q} t good = record { inside = inside }
   where
-    inside : (i : ℕ) → i < q .count → Holds (c .geometry) (getOf q i .cell)
+    inside : (i : ℕ) → i < q .count → Holds (c .geometry) (cellHeld (getOf q i))
     inside i h =
         let g = each-at good i (rw (tidy-length t) h) in
         rw (get-held i t, g .cell) (cell-within (c .geometry) _ (g .ok .1))

@@ -2,9 +2,9 @@
 use borrow.Author.Needs.{needs}
 use Rattle.service.proofs.access.Statement.{statement}
 use Rattle.service.proofs.access.Tie as tie
-use Rattle.ages.specs.Ages.{rowAt}
-use Rattle.service.specs.Serve.{performedOf}
 use Rattle.plan.specs.Plan.{tries, accessPlan}
+use Rattle.ages.specs.Ages.{rowAt}
+use Rattle.service.specs.Serve.{conductedOf}
 use borrow.Author.Tests.{eq-eqb, ne-eqb}
 
 is-open-requires : tie.Need-is-open-requires
@@ -20,25 +20,25 @@ returns : tie.Need-returns
 unfolding accessPlan rowAt
 returns c = simp (← c .before .before .before .before .before .before .is-open .ensures, c .before .before .before .before .before .if1 .taken, ← c .before .before .before .before .row-in .ensures, eq-eqb _ _ (c .before .if2 .taken), ← c .transfer .ensures)
 
-try-pre-requires : tie.Need-try-pre-requires
-try-pre-requires c κs = search needs
+pre-legal-requires : tie.Need-pre-legal-requires
+pre-legal-requires c κs = search needs
 
 tried-requires : tie.Need-tried-requires
 tried-requires c κs = search needs
 
 returns-2 : tie.Need-returns-2
-unfolding performedOf accessPlan rowAt tries
-returns-2 c = simp (← c .before .before .before .before .before .before .before .is-open .ensures, c .before .before .before .before .before .before .if1 .taken, ← c .before .before .before .before .before .row-in .ensures, ne-eqb _ _ (c .before .before .if2 .left), ← c .before .try-pre .ensures, ← c .tried .ensures)
+unfolding conductedOf accessPlan rowAt tries
+returns-2 c = simp (← c .before .before .before .before .before .before .before .is-open .ensures, c .before .before .before .before .before .before .if1 .taken, ← c .before .before .before .before .before .row-in .ensures, ne-eqb _ _ (c .before .before .if2 .left), ← c .before .pre-legal .ensures, ← c .tried .ensures)
 
-try-act-requires : tie.Need-try-act-requires
-try-act-requires c κs = search needs
+act-legal-requires : tie.Need-act-legal-requires
+act-legal-requires c κs = search needs
 
 tried-requires-2 : tie.Need-tried-requires-2
 tried-requires-2 c κs = search needs
 
 returns-3 : tie.Need-returns-3
-unfolding performedOf accessPlan rowAt tries
-returns-3 c = simp (← c .before .before .before .is-open .ensures, c .before .before .if1 .left, ← c .before .try-act .ensures, ← c .tried2 .ensures)
+unfolding conductedOf accessPlan rowAt tries
+returns-3 c = simp (← c .before .before .before .is-open .ensures, c .before .before .if1 .left, ← c .before .act-legal .ensures, ← c .tried2 .ensures)
 
 pub access-spec : {M : Type 1} → statement M
 access-spec =
@@ -48,9 +48,9 @@ access-spec =
     row-in-requires
     transfer-requires
     returns
-    try-pre-requires
+    pre-legal-requires
     tried-requires
     returns-2
-    try-act-requires
+    act-legal-requires
     tried-requires-2
     returns-3)

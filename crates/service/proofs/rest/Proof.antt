@@ -1,14 +1,14 @@
--- Field by field.
+-- The definition's.
 use borrow.Author.Needs.{needs}
 use Rattle.service.proofs.rest.Statement.{statement}
 use Rattle.service.proofs.rest.Tie as tie
-use Rattle.service.specs.Serve.{restedOf}
+use Rattle.service.specs.Serve.{restOf}
 
 quietly-requires : tie.Need-quietly-requires
 quietly-requires c κs = search needs
 
 returns : tie.Need-returns
-unfolding restedOf
+unfolding restOf
 returns c = simp (← c .quietly .ensures)
 
 pub rest-spec : {M : Type 1} → statement M

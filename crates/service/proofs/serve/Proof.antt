@@ -2,12 +2,9 @@
 use borrow.Author.Needs.{needs}
 use Rattle.service.proofs.serve.Statement.{statement}
 use Rattle.service.proofs.serve.Tie as tie
+use Rattle.service.specs.Serve.{conductedOf, servesOf}
+use Rattle.service.proofs.Laws.{rest-conducts, latency-conducts}
 use Rattle.plan.specs.Plan.{tries, planOf}
-use Rattle.service.specs.Serve.{performedOf, servedOf}
-use Rattle.service.proofs.Laws.{rest-performs, latency-performs}
-
-rested-requires : tie.Need-rested-requires
-rested-requires c κs = search needs
 
 enum-known-action : tie.Need-enum-known-action
 enum-known-action c = search needs
@@ -21,8 +18,8 @@ rest-requires c κs = search needs
 enum-told : tie.Need-enum-told
 enum-told c = search needs
 
-try-deac-requires : tie.Need-try-deac-requires
-try-deac-requires c κs = search needs
+deac-legal-requires : tie.Need-deac-legal-requires
+deac-legal-requires c κs = search needs
 
 tried-requires : tie.Need-tried-requires
 tried-requires c κs = search needs
@@ -30,8 +27,8 @@ tried-requires c κs = search needs
 enum-known-action-2 : tie.Need-enum-known-action-2
 enum-known-action-2 c = search needs
 
-try-refr-requires : tie.Need-try-refr-requires
-try-refr-requires c κs = search needs
+refr-legal-requires : tie.Need-refr-legal-requires
+refr-legal-requires c κs = search needs
 
 after-init-refresh-requires : tie.Need-after-init-refresh-requires
 after-init-refresh-requires c κs = search needs
@@ -42,17 +39,8 @@ tried-requires-2 c κs = search needs
 enum-told-2 : tie.Need-enum-told-2
 enum-told-2 c = search needs
 
-cast-try-mrs : tie.Need-cast-try-mrs
-cast-try-mrs c = search needs
-
-mul-try-mrs : tie.Need-mul-try-mrs
-mul-try-mrs c = search needs
-
-try-mrs-requires : tie.Need-try-mrs-requires
-try-mrs-requires c κs = search needs
-
-tried-requires-3 : tie.Need-tried-requires-3
-tried-requires-3 c κs = search needs
+mode-slot-requires : tie.Need-mode-slot-requires
+mode-slot-requires c κs = search needs
 
 enum-told-3 : tie.Need-enum-told-3
 enum-told-3 c = search needs
@@ -87,11 +75,11 @@ rest-requires-4 c κs = search needs
 enum-told-6 : tie.Need-enum-told-6
 enum-told-6 c = search needs
 
-try-deac-requires-2 : tie.Need-try-deac-requires-2
-try-deac-requires-2 c κs = search needs
+deac-legal-requires-2 : tie.Need-deac-legal-requires-2
+deac-legal-requires-2 c κs = search needs
 
-tried-requires-4 : tie.Need-tried-requires-4
-tried-requires-4 c κs = search needs
+tried-requires-3 : tie.Need-tried-requires-3
+tried-requires-3 c κs = search needs
 
 enum-told-7 : tie.Need-enum-told-7
 enum-told-7 c = search needs
@@ -109,73 +97,69 @@ rest-requires-5 : tie.Need-rest-requires-5
 rest-requires-5 c κs = search needs
 
 returns : tie.Need-returns
-unfolding servedOf planOf
-returns c = simp (c .before .before .before .action .given .1, ← rest-performs, ← c .before .before .before .before .before .rested .ensures, ← c .before .after-pause .ensures, ← c .rest .ensures)
+unfolding servesOf planOf
+returns c = simp (c .before .before .before .action .given .1, ← rest-conducts, ← c .before .after-pause .ensures, ← c .rest .ensures)
 
 returns-2 : tie.Need-returns-2
-unfolding servedOf planOf performedOf tries
-returns-2 c = simp (c .before .before .enum-told .given .1, ← c .before .try-deac .ensures, ← c .tried .ensures)
+unfolding servesOf planOf conductedOf tries
+returns-2 c = simp (c .before .before .enum-told .given .1, ← c .before .deac-legal .ensures, ← c .tried .ensures)
 
 returns-3 : tie.Need-returns-3
-unfolding servedOf planOf performedOf tries
-returns-3 c = simp (c .before .before .before .before .action2 .given .1, ← c .before .before .try-refr .ensures, ← c .before .after-init-refresh .ensures, ← c .tried2 .ensures)
+unfolding servesOf planOf conductedOf tries
+returns-3 c = simp (c .before .before .before .before .action2 .given .1, ← c .before .before .refr-legal .ensures, ← c .before .after-init-refresh .ensures, ← c .tried2 .ensures)
 
 returns-4 : tie.Need-returns-4
-unfolding servedOf planOf performedOf tries
-returns-4 c = simp (c .before .before .before .enum-told2 .given .1, ← c .before .try-mrs .ensures, ← c .tried3 .ensures)
+unfolding servesOf planOf
+returns-4 c = simp (c .before .enum-told2 .given .1, ← c .mode-slot .ensures)
 
 returns-5 : tie.Need-returns-5
-unfolding servedOf planOf
-returns-5 c = simp (c .before .enum-told3 .given .1, ← rest-performs, ← c .before .before .before .rested .ensures, ← c .rest2 .ensures)
+unfolding servesOf planOf
+returns-5 c = simp (c .before .enum-told3 .given .1, ← rest-conducts, ← c .rest2 .ensures)
 
 returns-6 : tie.Need-returns-6
-unfolding servedOf planOf
-returns-6 c = simp (c .before .enum-told4 .given .1, ← rest-performs, ← c .before .before .before .rested .ensures, ← c .rest3 .ensures)
+unfolding servesOf planOf
+returns-6 c = simp (c .before .enum-told4 .given .1, ← rest-conducts, ← c .rest3 .ensures)
 
 returns-7 : tie.Need-returns-7
-unfolding servedOf planOf
+unfolding servesOf planOf
 returns-7 c = simp (c .before .before .action3 .given .1, ← c .access .ensures)
 
 returns-8 : tie.Need-returns-8
-unfolding servedOf planOf
-returns-8 c = simp (c .before .before .action4 .given .1, ← latency-performs, ← c .before .before .before .before .rested .ensures, ← c .latency .ensures)
+unfolding servesOf planOf
+returns-8 c = simp (c .before .before .action4 .given .1, ← latency-conducts, ← c .latency .ensures)
 
 returns-9 : tie.Need-returns-9
-unfolding servedOf planOf
-returns-9 c = simp (c .before .enum-told5 .given .1, ← rest-performs, ← c .before .before .before .rested .ensures, ← c .rest4 .ensures)
+unfolding servesOf planOf
+returns-9 c = simp (c .before .enum-told5 .given .1, ← rest-conducts, ← c .rest4 .ensures)
 
 returns-10 : tie.Need-returns-10
-unfolding servedOf planOf performedOf tries
-returns-10 c = simp (c .before .before .enum-told6 .given .1, ← c .before .try-deac2 .ensures, ← c .tried4 .ensures)
+unfolding servesOf planOf conductedOf tries
+returns-10 c = simp (c .before .before .enum-told6 .given .1, ← c .before .deac-legal2 .ensures, ← c .tried3 .ensures)
 
 returns-11 : tie.Need-returns-11
-unfolding servedOf planOf
+unfolding servesOf planOf
 returns-11 c = simp (c .before .enum-told7 .given .1, ← c .refresh-slot .ensures)
 
 returns-12 : tie.Need-returns-12
-unfolding servedOf planOf
-returns-12 c = simp (c .before .before .before .action5 .given .1, ← rest-performs, ← c .before .before .before .before .before .rested .ensures, ← c .before .refresh-cycle .ensures, ← c .rest5 .ensures)
+unfolding servesOf planOf
+returns-12 c = simp (c .before .before .before .action5 .given .1, ← rest-conducts, ← c .before .refresh-cycle .ensures, ← c .rest5 .ensures)
 
 pub serve-spec : {M : Type 1} → statement M
 serve-spec =
     tie.close
     (tie.spec
-    rested-requires
     enum-known-action
     after-pause-requires
     rest-requires
     enum-told
-    try-deac-requires
+    deac-legal-requires
     tried-requires
     enum-known-action-2
-    try-refr-requires
+    refr-legal-requires
     after-init-refresh-requires
     tried-requires-2
     enum-told-2
-    cast-try-mrs
-    mul-try-mrs
-    try-mrs-requires
-    tried-requires-3
+    mode-slot-requires
     enum-told-3
     rest-requires-2
     enum-told-4
@@ -187,8 +171,8 @@ serve-spec =
     enum-told-5
     rest-requires-4
     enum-told-6
-    try-deac-requires-2
-    tried-requires-4
+    deac-legal-requires-2
+    tried-requires-3
     enum-told-7
     refresh-slot-requires
     enum-known-action-5

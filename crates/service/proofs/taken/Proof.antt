@@ -1,4 +1,4 @@
--- Field by field.
+-- The definition's outcome.
 use borrow.Author.Needs.{needs}
 use Rattle.service.proofs.taken.Statement.{statement}
 use Rattle.service.proofs.taken.Tie as tie

@@ -1,4 +1,4 @@
--- By the request's kind.
+-- The kind picks the definition's case.
 use borrow.Author.Needs.{needs}
 use Rattle.service.proofs.transfer.Statement.{statement}
 use Rattle.service.proofs.transfer.Tie as tie

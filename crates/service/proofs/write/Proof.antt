@@ -1,19 +1,22 @@
--- The definition's command and outcome.
+-- The definition's command and outcome; its halfword does not decide whether it is legal.
 use borrow.Author.Needs.{needs}
 use Rattle.service.proofs.write.Statement.{statement}
 use Rattle.service.proofs.write.Tie as tie
-use Rattle.service.specs.Serve.{performedOf}
 use Rattle.plan.specs.Plan.{writePlan}
+use Rattle.legality.proofs.Hold.{wrt-any}
+use Rattle.service.specs.Serve.{conductedOf}
 
-try-wrt-requires : tie.Need-try-wrt-requires
-try-wrt-requires c κs = search needs
+wrt-legal-requires : tie.Need-wrt-legal-requires
+wrt-legal-requires c κs = search needs
 
 carried-out-requires : tie.Need-carried-out-requires
 carried-out-requires c κs = search needs
 
 returns : tie.Need-returns
-unfolding performedOf writePlan
-returns c = simp (← c .before .try-wrt .ensures, ← c .carried-out .ensures)
+unfolding conductedOf writePlan
+returns c =
+    let a = c .before .before .before .before .args in
+    simp (wrt-any (a .c) (a .p) (a .r .bank) (a .r .column) (a .r .halfword) 0, ← c .before .wrt-legal .ensures, ← c .carried-out .ensures)
 
 pub write-spec : {M : Type 1} → statement M
-write-spec = tie.close (tie.spec try-wrt-requires carried-out-requires returns)
+write-spec = tie.close (tie.spec wrt-legal-requires carried-out-requires returns)

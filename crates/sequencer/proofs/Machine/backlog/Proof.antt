@@ -1,9 +1,9 @@
 -- The test is on the number that `record_number` gives.
 use borrow.Author.Needs.{needs}
-use borrow.Author.Tests.{eq-eqb, ne-eqb}
-use Rattle.sequencer.specs.Calls.{backlogOf}
 use Rattle.sequencer.proofs.Machine.backlog.Statement.{statement}
 use Rattle.sequencer.proofs.Machine.backlog.Tie as tie
+use Rattle.sequencer.specs.Calls.{backlogOf}
+use borrow.Author.Tests.{eq-eqb, ne-eqb}
 
 record-number-requires : tie.Need-record-number-requires
 record-number-requires c κs = search needs

@@ -1,0 +1,2 @@
+-- The past after each command.
+pub mod Stores

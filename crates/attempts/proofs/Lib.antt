@@ -1,2 +1,0 @@
--- The past after each command.
-pub mod Sent

@@ -1,0 +1,2 @@
+-- What the numbers show of a record.
+pub mod Laws

@@ -1,0 +1,91 @@
+// Owns the numbers that a machine's parts decide: 9, with the soundness behind it, and 8; and for a request 4 to 7 after these.
+use ages::Past;
+use config::Config;
+use plan::Control;
+use queue::Queue;
+use refresh::Counters;
+ghost use mathlib.Core.Path.{_≡_};
+ghost use Rattle.numbers.specs.Tests.{movingOf};
+ghost use Rattle.numbers.specs.Numbers.{recordNumberBy, roomNumberOf, requestNumberBy};
+
+// The most requests that are ever accepted.
+const LAST: u32 = 4294967295;
+
+// Soundness, the test for number 9; docs/SOUNDNESS.md says it in words. It is made on parts of the machine, so that the machine is not copied for it.
+
+// All of it but the configuration and the queued cells: the counters, the number of requests, the action under way.
+pub fn moving(rr: u16, counters: Counters, control: Control, programmed: bool, count: usize) -> bool
+    ensures { λ r. ⌜ r ≡ movingOf rr counters (control .action) programmed count ⌝ }
+{
+    if !counters.sound(rr) {
+        return false;
+    }
+    if 8 < count {
+        return false;
+    }
+    let action = control.action;
+    actions::action_sound(rr, programmed, count, action)
+}
+
+// What every call tests first: 9, then 8. `Machine::slot` makes these tests itself.
+pub fn record_number(
+    configured: bool,
+    config: Config,
+    past: Past,
+    counters: Counters,
+    control: Control,
+    queue: Queue,
+) -> u8
+    ensures { λ r. ⌜ r ≡ recordNumberBy configured config past counters control queue ⌝ }
+{
+    if !configured {
+        return 8;
+    }
+    if !config::accepted(config) {
+        return 9;
+    }
+    if !moving(config.rr, counters, control, past.programmed, queue.count) {
+        return 9;
+    }
+    if queue.inside(config.geometry) {
+        return 0;
+    }
+    9
+}
+
+// 6 for a full queue, then 7 where the last number has been given.
+fn room_number(count: usize, accepted: u32) -> u8
+    ensures { λ r. ⌜ r ≡ roomNumberOf count accepted ⌝ }
+{
+    if 8 <= count {
+        return 6;
+    }
+    if LAST <= accepted {
+        return 7;
+    }
+    0
+}
+
+// What a request tests: 9 and 8, then 4 and 5, then 6 and 7.
+pub fn request_number(
+    configured: bool,
+    config: Config,
+    past: Past,
+    counters: Counters,
+    control: Control,
+    queue: Queue,
+    accepted: u32,
+    address: u32,
+) -> u8
+    ensures { λ r. ⌜ r ≡ requestNumberBy configured config past counters control queue accepted address ⌝ }
+{
+    let first = record_number(configured, config, past, counters, control, queue);
+    if first != 0 {
+        return first;
+    }
+    let second = address::address_number(config.geometry, address);
+    if second != 0 {
+        return second;
+    }
+    room_number(queue.count, accepted)
+}

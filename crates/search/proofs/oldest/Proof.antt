@@ -1,0 +1,64 @@
+-- The invariant: the search from place i on finds what the whole search finds.
+use Prim.Native.Nat.{_+_, _-_, _≤_}
+use mathlib.Core.Path.{_≡_, sym, _∙_}
+use mathlib.Core.Bool.{cond}
+use native.Mathlib.Nat.{sub-zero}
+use native.Mathlib.Omega.{arith}
+use borrow.Author.Needs.{needs}
+use Rattle.queue.specs.declared.Found.the-variants.{At}
+use Rattle.queue.specs.Places.{heldOf}
+use Rattle.queue.specs.Oldest.{readyOf, firstOf, oldestOf}
+use Rattle.queue.proofs.Walks.{first-step, first-end}
+use Rattle.search.proofs.oldest.Statement.{statement}
+use Rattle.search.proofs.oldest.Tie as tie
+
+abbrev Inv-loop : tie.InvT-loop
+Inv-loop self kind n i₀ i = (i ≤ n) × (oldestOf kind (heldOf self) ≡ firstOf (readyOf kind (heldOf self)) (n - i) i)
+
+abbrev μ-loop : tie.MeasureT-loop
+μ-loop self kind n i₀ i = n - i
+
+held-requires : tie.Need-held-requires Inv-loop μ-loop
+held-requires c κs = search needs
+
+loop-holds : tie.Need-loop-holds Inv-loop μ-loop
+unfolding oldestOf
+loop-holds c = (omega arith, simp (sub-zero, c .held .ensures))
+
+step : (c : tie.In-loop Inv-loop μ-loop) → oldestOf (c .before .before .before .args .kind) (heldOf (c .before .before .before .args .queue))
+    ≡ cond (readyOf (c .before .before .before .args .kind) (heldOf (c .before .before .before .args .queue)) (c .before .loop .i)) (At (c .before .loop .i))
+    (firstOf (readyOf (c .before .before .before .args .kind) (heldOf (c .before .before .before .args .queue))) (c .before .before .held .result - (c .before .loop .i + 1)) (c .before .loop .i + 1))
+step c = c .before .loop .inv .1 ∙ first-step _ _ _ (c .loop-test .taken)
+
+ready-requires : tie.Need-ready-requires Inv-loop μ-loop
+ready-requires c κs = rw (← c .before .before .held .ensures) (c .loop-test .taken)
+
+returns : tie.Need-returns Inv-loop μ-loop
+returns c = simp (step (c .before .before), ← c .before .ready .ensures, c .if1 .taken)
+
+add-i : tie.Need-add-i Inv-loop μ-loop
+add-i c = omega arith
+
+loop-less : tie.Need-loop-less Inv-loop μ-loop
+loop-less c = omega arith
+
+loop-again : tie.Need-loop-again Inv-loop μ-loop
+loop-again c = (omega arith, step (c .before .before) ∙ simp (← c .before .ready .ensures, c .if1 .left))
+
+returns-2 : tie.Need-returns-2 Inv-loop μ-loop
+returns-2 c = sym (c .before .loop .inv .1 ∙ first-end _ _ _ (c .loop-test .left))
+
+pub oldest-spec : {M : Type 1} → statement M
+oldest-spec =
+    tie.close
+    (tie.spec
+    Inv-loop
+    μ-loop
+    held-requires
+    loop-holds
+    ready-requires
+    returns
+    add-i
+    loop-less
+    loop-again
+    returns-2)

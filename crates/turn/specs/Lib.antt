@@ -1,0 +1,2 @@
+-- How the code goes about a slot.
+pub mod Parts
