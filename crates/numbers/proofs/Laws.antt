@@ -23,7 +23,7 @@ use Rattle.plan.specs.declared.Control.{Control}
 use Rattle.plan.specs.Actions.{soundAction}
 use Rattle.plan.proofs.Sound.{SoundAction, sound-action, action-sound}
 use Rattle.numbers.specs.Sound.{fitBy, soundBy}
-use Rattle.numbers.specs.Tests.{movingOf}
+use Rattle.numbers.specs.Tests.{stateSound}
 use Rattle.numbers.specs.Numbers.{recordNumberBy, lastNumber, roomNumberOf, requestNumberBy}
 
 -- what a sound record that is configured keeps to
@@ -124,8 +124,8 @@ module _ (b : Bool) (c : Config) (p : Past) (n : Counters) (x : Control) (q : Qu
 
   -- The code's tests: what it tests in one, and what it tests after that.
   fit-parts : fitBy c p n x q
-      ≡ (acceptedOf c && (movingOf (c .rr) n (x .action) (p .programmed) (q .count) && insideOf (c .geometry) (heldOf q)))
-  unfolding fitBy movingOf soundQueue
+      ≡ (acceptedOf c && (stateSound (c .rr) n (x .action) (p .programmed) (q .count) && insideOf (c .geometry) (heldOf q)))
+  unfolding fitBy stateSound soundQueue
   fit-parts =
       go (acceptedOf c) (soundCounters (c .rr) n) (soundAction (c .rr) (p .programmed) (q .count) (x .action)) (leb (q .count) 8)
       (insideOf (c .geometry) (heldOf q))
@@ -147,13 +147,13 @@ module _ (b : Bool) (c : Config) (p : Past) (n : Counters) (x : Control) (q : Qu
   unfolding recordNumberBy soundBy
   configured-number e = rw e
 
-  pub number-parts : b ≡ true → {s t d : Bool} → s ≡ acceptedOf c → t ≡ movingOf (c .rr) n (x .action) (p .programmed) (q .count)
+  pub number-parts : b ≡ true → {s t d : Bool} → s ≡ acceptedOf c → t ≡ stateSound (c .rr) n (x .action) (p .programmed) (q .count)
       → d ≡ insideOf (c .geometry) (heldOf q)
       → recordNumberBy b c p n x q ≡ cond (s && (t && d)) 0 9
   number-parts e f g h = configured-number e ∙ ap (λ y. cond y 0 9) fit-parts ∙ rw (f, g, h)
 
 -- what is asked of the queue's test
-pub moving-few : (rr : ℕ) (n : Counters) (a : Action) (programmed : Bool) (count : ℕ) → movingOf rr n a programmed count ≡ true → count ≤ 8
-unfolding movingOf
-moving-few rr n a programmed count h =
+pub state-few : (rr : ℕ) (n : Counters) (a : Action) (programmed : Bool) (count : ℕ) → stateSound rr n a programmed count ≡ true → count ≤ 8
+unfolding stateSound
+state-few rr n a programmed count h =
     leb-true _ _ (both (leb count 8) _ (both (soundCounters rr n) _ h .1) .0)

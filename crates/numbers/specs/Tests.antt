@@ -8,5 +8,5 @@ use Rattle.refresh.specs.Counting.{soundCounters}
 use Rattle.plan.specs.declared.Action.{Action}
 use Rattle.plan.specs.Actions.{soundAction}
 
-unfoldable pub movingOf : ℕ → Counters → Action → Bool → ℕ → Bool
-movingOf rr n a programmed count = soundCounters rr n && (leb count 8 && soundAction rr programmed count a)
+unfoldable pub stateSound : ℕ → Counters → Action → Bool → ℕ → Bool
+stateSound rr n a programmed count = soundCounters rr n && (leb count 8 && soundAction rr programmed count a)

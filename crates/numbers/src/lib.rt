@@ -5,7 +5,7 @@ use plan::Control;
 use queue::Queue;
 use refresh::Counters;
 ghost use mathlib.Core.Path.{_≡_};
-ghost use Rattle.numbers.specs.Tests.{movingOf};
+ghost use Rattle.numbers.specs.Tests.{stateSound};
 ghost use Rattle.numbers.specs.Numbers.{recordNumberBy, roomNumberOf, requestNumberBy};
 
 // The most requests that are ever accepted.
@@ -14,8 +14,14 @@ const LAST: u32 = 4294967295;
 // Soundness, the test for number 9; docs/SOUNDNESS.md says it in words. It is made on parts of the machine, so that the machine is not copied for it.
 
 // All of it but the configuration and the queued cells: the counters, the number of requests, the action under way.
-pub fn moving(rr: u16, counters: Counters, control: Control, programmed: bool, count: usize) -> bool
-    ensures { λ r. ⌜ r ≡ movingOf rr counters (control .action) programmed count ⌝ }
+pub fn state_sound(
+    rr: u16,
+    counters: Counters,
+    control: Control,
+    programmed: bool,
+    count: usize,
+) -> bool
+    ensures { λ r. ⌜ r ≡ stateSound rr counters (control .action) programmed count ⌝ }
 {
     if !counters.sound(rr) {
         return false;
@@ -44,7 +50,7 @@ pub fn record_number(
     if !config::accepted(config) {
         return 9;
     }
-    if !moving(config.rr, counters, control, past.programmed, queue.count) {
+    if !state_sound(config.rr, counters, control, past.programmed, queue.count) {
         return 9;
     }
     if queue.inside(config.geometry) {

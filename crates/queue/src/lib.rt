@@ -154,7 +154,7 @@ impl Queue {
     }
 
     // Soundness, half of the queue's part of the test for number 9: do the cells of the queued requests lie in the geometry? The count is tested
-    // before (`numbers::moving`).
+    // before (`numbers::state_sound`).
     pub fn inside(self, g: Geometry) -> bool
         requires { ⌜ Shaped g ⌝ }
         requires { ⌜ self .count ≤ 8 ⌝ }

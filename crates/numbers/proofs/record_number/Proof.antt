@@ -5,7 +5,7 @@ use Rattle.numbers.proofs.record_number.Tie as tie
 use mathlib.Core.Path.{refl, sym, _∙_}
 use borrow.Author.Tests.{not-true, not-false}
 use Rattle.config.proofs.Laws.{accepted-true}
-use Rattle.numbers.proofs.Laws.{number-blank, number-parts, moving-few}
+use Rattle.numbers.proofs.Laws.{number-blank, number-parts, state-few}
 
 returns : tie.Need-returns
 returns c =
@@ -20,16 +20,16 @@ returns-2 c =
     let x = c .before .before .before .args in
     simp (number-parts (x .configured) (x .config) (x .past) (x .counters) (x .control) (x .queue) (not-false (x .configured) (c .before .before .if1 .left)) (c .before .accepted .ensures) refl refl, not-true (c .before .accepted .result) (c .if2 .taken))
 
-moving-requires : tie.Need-moving-requires
-moving-requires c κs = search needs
+state-sound-requires : tie.Need-state-sound-requires
+state-sound-requires c κs = search needs
 
 returns-3 : tie.Need-returns-3
 returns-3 c =
     let x = c .before .before .before .before .before .args in
     simp (
-      number-parts (x .configured) (x .config) (x .past) (x .counters) (x .control) (x .queue) (not-false (x .configured) (c .before .before .before .before .if1 .left)) (c .before .before .before .accepted .ensures) (c .before .moving .ensures) refl,
+      number-parts (x .configured) (x .config) (x .past) (x .counters) (x .control) (x .queue) (not-false (x .configured) (c .before .before .before .before .if1 .left)) (c .before .before .before .accepted .ensures) (c .before .state-sound .ensures) refl,
       not-false (c .before .before .before .accepted .result) (c .before .before .if2 .left),
-      not-true (c .before .moving .result) (c .if3 .taken),
+      not-true (c .before .state-sound .result) (c .if3 .taken),
     )
 
 inside-requires : tie.Need-inside-requires
@@ -37,7 +37,7 @@ inside-requires c κs =
     let a = c .before .before .before in
     let b = c .before in (
       accepted-true _ (sym (a .accepted .ensures) ∙ not-false (a .accepted .result) (c .before .before .if2 .left)) .shaped,
-      moving-few _ _ _ _ _ (sym (b .moving .ensures) ∙ not-false (b .moving .result) (c .if3 .left)),
+      state-few _ _ _ _ _ (sym (b .state-sound .ensures) ∙ not-false (b .state-sound .result) (c .if3 .left)),
     )
 
 returns-4 : tie.Need-returns-4
@@ -46,9 +46,9 @@ returns-4 c =
     let a = c .before .before .before .before .before in
     let b = c .before .before .before in
     simp (
-      number-parts (x .configured) (x .config) (x .past) (x .counters) (x .control) (x .queue) (not-false (x .configured) (a .before .if1 .left)) (a .accepted .ensures) (b .moving .ensures) (c .before .inside .ensures),
+      number-parts (x .configured) (x .config) (x .past) (x .counters) (x .control) (x .queue) (not-false (x .configured) (a .before .if1 .left)) (a .accepted .ensures) (b .state-sound .ensures) (c .before .inside .ensures),
       not-false (a .accepted .result) (c .before .before .before .before .if2 .left),
-      not-false (b .moving .result) (c .before .before .if3 .left),
+      not-false (b .state-sound .result) (c .before .before .if3 .left),
       c .if4 .taken,
     )
 
@@ -58,9 +58,9 @@ returns-5 c =
     let a = c .before .before .before .before .before in
     let b = c .before .before .before in
     simp (
-      number-parts (x .configured) (x .config) (x .past) (x .counters) (x .control) (x .queue) (not-false (x .configured) (a .before .if1 .left)) (a .accepted .ensures) (b .moving .ensures) (c .before .inside .ensures),
+      number-parts (x .configured) (x .config) (x .past) (x .counters) (x .control) (x .queue) (not-false (x .configured) (a .before .if1 .left)) (a .accepted .ensures) (b .state-sound .ensures) (c .before .inside .ensures),
       not-false (a .accepted .result) (c .before .before .before .before .if2 .left),
-      not-false (b .moving .result) (c .before .before .if3 .left),
+      not-false (b .state-sound .result) (c .before .before .if3 .left),
       c .if4 .left,
     )
 
@@ -71,7 +71,7 @@ record-number-spec =
     returns
     accepted-requires
     returns-2
-    moving-requires
+    state-sound-requires
     returns-3
     inside-requires
     returns-4

@@ -6,7 +6,7 @@ use mathlib.Core.Path.{_≡_, refl, sym, _∙_}
 use borrow.Author.Tests.{not-true, not-false}
 use Rattle.config.proofs.Laws.{accepted-true}
 use Rattle.sequencer.specs.Calls.{recordNumberOf, slotOf}
-use Rattle.numbers.proofs.Laws.{number-blank, number-parts, moving-few}
+use Rattle.numbers.proofs.Laws.{number-blank, number-parts, state-few}
 use Rattle.sequencer.proofs.Laws.{slot-leaves, slot-stays}
 
 refused-requires : tie.Need-refused-requires
@@ -35,8 +35,8 @@ returns-2 c =
       ← c .refused2 .ensures,
     )
 
-moving-requires : tie.Need-moving-requires
-moving-requires c κs = search needs
+state-sound-requires : tie.Need-state-sound-requires
+state-sound-requires c κs = search needs
 
 refused-requires-3 : tie.Need-refused-requires-3
 refused-requires-3 c κs = search needs
@@ -48,9 +48,9 @@ returns-3 c =
     let a = c .before .before .before .before .before .before .before .before in
     let b = c .before .before in
     simp (
-      number-parts (m .configured) (m .config) (m .past) (m .counters) (m .control) (m .queue) (not-false (m .configured) (a .before .before .if1 .left)) (a .accepted .ensures) (b .moving .ensures) refl,
+      number-parts (m .configured) (m .config) (m .past) (m .counters) (m .control) (m .queue) (not-false (m .configured) (a .before .before .if1 .left)) (a .accepted .ensures) (b .state-sound .ensures) refl,
       not-false (a .accepted .result) (c .before .before .before .before .before .before .before .if2 .left),
-      not-true (b .moving .result) (c .before .if3 .taken),
+      not-true (b .state-sound .result) (c .before .if3 .taken),
       ← c .refused3 .ensures,
     )
 
@@ -59,7 +59,7 @@ inside-requires c κs =
     let a = c .before .before .before .before .before .before .before in
     let b = c .before in (
       accepted-true _ (sym (a .accepted .ensures) ∙ not-false (a .accepted .result) (c .before .before .before .before .before .before .if2 .left)) .shaped,
-      moving-few _ _ _ _ _ (sym (b .moving .ensures) ∙ not-false (b .moving .result) (c .if3 .left)),
+      state-few _ _ _ _ _ (sym (b .state-sound .ensures) ∙ not-false (b .state-sound .result) (c .if3 .left)),
     )
 
 refused-requires-4 : tie.Need-refused-requires-4
@@ -73,9 +73,9 @@ returns-4 c =
     let b = c .before .before .before .before in
     let d = c .before .before in
     simp (
-      number-parts (m .configured) (m .config) (m .past) (m .counters) (m .control) (m .queue) (not-false (m .configured) (a .before .before .if1 .left)) (a .accepted .ensures) (b .moving .ensures) (d .inside .ensures),
+      number-parts (m .configured) (m .config) (m .past) (m .counters) (m .control) (m .queue) (not-false (m .configured) (a .before .before .if1 .left)) (a .accepted .ensures) (b .state-sound .ensures) (d .inside .ensures),
       not-false (a .accepted .result) (c .before .before .before .before .before .before .before .before .before .if2 .left),
-      not-false (b .moving .result) (c .before .before .before .if3 .left),
+      not-false (b .state-sound .result) (c .before .before .before .if3 .left),
       not-true (d .inside .result) (c .before .if4 .taken),
       ← c .refused4 .ensures,
     )
@@ -97,7 +97,7 @@ returns-5 c =
     let z : recordNumberOf (x .self) ≡ 0 =
     number-parts (x .self .configured) (x .self .config) (x .self .past) (x .self .counters) (x .self .control) (x .self .queue) (not-false (x .self .configured) (a .before .before .if1 .left))
     (sym (not-false (a .accepted .result) (c .before .before .before .before .before .before .before .before .before .before .before .before .before .before .if2 .left)) ∙ a .accepted .ensures)
-    (sym (not-false (b .moving .result) (c .before .before .before .before .before .before .before .before .if3 .left)) ∙ b .moving .ensures)
+    (sym (not-false (b .state-sound .result) (c .before .before .before .before .before .before .before .before .if3 .left)) ∙ b .state-sound .ensures)
     (sym (not-false (d .inside .result) (c .before .before .before .before .before .before .if4 .left)) ∙ d .inside .ensures) in
     slot-leaves (x .self) (x .bus) z (c .before .before .before .before .before .turn .ensures) (c .before .if5 .taken) (c .remove .ensures)
 
@@ -110,7 +110,7 @@ returns-6 c =
     let z : recordNumberOf (x .self) ≡ 0 =
     number-parts (x .self .configured) (x .self .config) (x .self .past) (x .self .counters) (x .self .control) (x .self .queue) (not-false (x .self .configured) (a .before .before .if1 .left))
     (sym (not-false (a .accepted .result) (c .before .before .before .before .before .before .before .before .before .before .before .before .before .if2 .left)) ∙ a .accepted .ensures)
-    (sym (not-false (b .moving .result) (c .before .before .before .before .before .before .before .if3 .left)) ∙ b .moving .ensures)
+    (sym (not-false (b .state-sound .result) (c .before .before .before .before .before .before .before .if3 .left)) ∙ b .state-sound .ensures)
     (sym (not-false (d .inside .result) (c .before .before .before .before .before .if4 .left)) ∙ d .inside .ensures) in
     slot-stays (x .self) (x .bus) z (c .before .before .before .before .turn .ensures) (c .if5 .left)
 
@@ -123,7 +123,7 @@ slot-spec =
     accepted-requires
     refused-requires-2
     returns-2
-    moving-requires
+    state-sound-requires
     refused-requires-3
     returns-3
     inside-requires
