@@ -1,10 +1,13 @@
 // Owns what a slot asks of the action under way (`plan` has it): whether it is a service slot, whether a choice is due, whose request it is, whether
 // it is sound; and the first action.
+use ages::Past;
 use config::Config;
 use plan::Action;
 ghost use mathlib.Core.Path.{_≡_};
 ghost use mathlib.Core.Bool.{_&&_};
-ghost use lib.Dec.{ltb};
+ghost use lib.Dec.{leb, ltb};
+ghost use Rattle.device.specs.View.{allClosed};
+ghost use Rattle.ages.specs.Ages.{rowAt};
 ghost use Rattle.plan.specs.Actions.{isIdle, inService, underWay, firstAction, counts, soundAction};
 
 // Is the next slot a service slot? The refresh counters stand still before the first one.
@@ -84,7 +87,9 @@ fn is_counting(n: u32, most: u32) -> bool
     n <= most
 }
 
-// Is the request at place i of so many queued, and an MRS sent?
+// The parts of `action_sound`.
+
+// An access: an MRS was sent, and the request at place i is one of `count` queued.
 fn is_queued(programmed: bool, i: usize, count: usize) -> bool
     ensures { λ r. ⌜ r ≡ (programmed && ltb i count) ⌝ }
 {
@@ -94,23 +99,68 @@ fn is_queued(programmed: bool, i: usize, count: usize) -> bool
     false
 }
 
-// Soundness of the action under way, its part of the test for number 9: its count is in its range; in service an MRS was sent (`programmed`)
-// and its request is one of the `count` queued.
-pub fn action_sound(rr: u16, programmed: bool, count: usize, action: Action) -> bool
-    ensures { λ r. ⌜ r ≡ soundAction rr programmed count action ⌝ }
+// A read whose halfword comes in `left` slots, CL at most.
+fn is_awaited(programmed: bool, i: usize, count: usize, left: u8, latency: u8) -> bool
+    ensures { λ r. ⌜ r ≡ (programmed && (ltb i count && counts left latency)) ⌝ }
+{
+    if !programmed {
+        return false;
+    }
+    if count <= i {
+        return false;
+    }
+    is_counting(left as u32, latency as u32)
+}
+
+// The initialisation's REFRs: all banks are closed, and one to eight are left.
+fn is_refreshing(p: Past, n: u8) -> bool
+    ensures { λ r. ⌜ r ≡ (allClosed (rowAt p) && counts n 8) ⌝ }
+{
+    if ages::all_closed(p) {
+        return is_counting(n as u32, 8);
+    }
+    false
+}
+
+// A refresh with its REFR to come: all banks are closed.
+fn is_precharged(p: Past) -> bool
+    ensures { λ r. ⌜ r ≡ (p .programmed && allClosed (rowAt p)) ⌝ }
+{
+    if p.programmed {
+        return ages::all_closed(p);
+    }
+    false
+}
+
+// A refresh with its REFR sent: `left` of tRFC slots, the REFR's not among them.
+fn is_cycling(programmed: bool, left: u8, rfc: u8) -> bool
+    ensures { λ r. ⌜ r ≡ (programmed && (leb 1 left && ltb left rfc)) ⌝ }
+{
+    if !programmed {
+        return false;
+    }
+    if left < 1 {
+        return false;
+    }
+    left < rfc
+}
+
+// Soundness of the action under way, its part of the test for number 9 (docs/SOUNDNESS.md); `count` requests are queued.
+pub fn action_sound(config: Config, p: Past, count: usize, action: Action) -> bool
+    ensures { λ r. ⌜ r ≡ soundAction config (p .programmed) (allClosed (rowAt p)) count action ⌝ }
 {
     match action {
-        Action::PowerUp(n) => is_counting(n, 8 * (rr as u32)),
+        Action::PowerUp(n) => is_counting(n, 8 * (config.rr as u32)),
         Action::InitPrecharge => true,
-        Action::InitRefresh(n) => is_counting(n as u32, 8),
-        Action::InitMode => true,
-        Action::InitSettle => true,
-        Action::Idle => programmed,
-        Action::Access(i) => is_queued(programmed, i, count),
-        Action::CasLatency(i, _) => is_queued(programmed, i, count),
-        Action::Turnaround => programmed,
-        Action::PrechargeAll => programmed,
-        Action::Refresh => programmed,
-        Action::RefreshCycle(_) => programmed,
+        Action::InitRefresh(n) => is_refreshing(p, n),
+        Action::InitMode => ages::all_closed(p),
+        Action::InitSettle => p.programmed,
+        Action::Idle => p.programmed,
+        Action::Access(i) => is_queued(p.programmed, i, count),
+        Action::CasLatency(i, left) => is_awaited(p.programmed, i, count, left, config.latency),
+        Action::Turnaround => p.programmed,
+        Action::PrechargeAll => p.programmed,
+        Action::Refresh => is_precharged(p),
+        Action::RefreshCycle(left) => is_cycling(p.programmed, left, config.rfc),
     }
 }

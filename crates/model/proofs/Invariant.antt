@@ -188,7 +188,7 @@ dueOf c (RefreshCycle left) = c .refresh
 abbrev pub needOf : Config → Past → Queue → Action → ℕ
 needOf c p q a = leftOf c p q a + dueOf c a
 
--- R2 is kept, but for what is left of a refresh; slots that are counted down are left; no action of the initialisation is under way
+-- R2 is kept, but for what is left of a refresh; slots that are counted down are left, no more than there were; no action of the initialisation is under way
 abbrev pub Settled : Config → Past → Action → Type 0
 Settled c p (PowerUp n) = ⊥
 Settled c p InitPrecharge = ⊥
@@ -197,11 +197,11 @@ Settled c p InitMode = ⊥
 Settled c p InitSettle = ⊥
 Settled c p Idle = c .rfc ≤ ageOf p refreshCycle
 Settled c p (Access i) = c .rfc ≤ ageOf p refreshCycle
-Settled c p (CasLatency i left) = (c .rfc ≤ ageOf p refreshCycle) × (1 ≤ left)
+Settled c p (CasLatency i left) = (c .rfc ≤ ageOf p refreshCycle) × (1 ≤ left) × (left ≤ c .latency)
 Settled c p Turnaround = c .rfc ≤ ageOf p refreshCycle
 Settled c p PrechargeAll = c .rfc ≤ ageOf p refreshCycle
 Settled c p Refresh = (c .rfc ≤ ageOf p refreshCycle) × (allClosed (rowAt p) ≡ true)
-Settled c p (RefreshCycle left) = (c .rfc ≤ ageOf p refreshCycle + left) × (1 ≤ left)
+Settled c p (RefreshCycle left) = (c .rfc ≤ ageOf p refreshCycle + left) × (1 ≤ left) × (left < c .rfc)
 
 -- a refresh whose REFR is still to come is owed
 abbrev pub Owing : Action → Counters → Type 0

@@ -1,49 +1,18 @@
--- A slot as the claim's proofs take it apart: its counters, its action, the plan carried out on the record of ages, and what follows. Every slot's
--- command is legal, and the past after it is the past with that command sent.
+-- A machine's slot as the claim's proofs take it apart: its counters, its action, the action's plan carried out, and what follows.
 use Prim.Native.Nat.{ℕ}
 use mathlib.Core.Path.{_≡_, refl}
-use mathlib.Core.Bool.{true, false}
-use Rattle.config.specs.declared.Config.{Config}
-use Rattle.command.specs.declared.Command.{Command}
-use Rattle.command.specs.declared.Command.the-variants.{Nop}
 use Rattle.device.specs.View.{allClosed}
-use Rattle.device.specs.Rules.{requirements, legalOf, carriedOf}
-use Rattle.device.proofs.Tests.{by-test}
-use Rattle.ages.specs.declared.Past.{Past}
-use Rattle.ages.specs.Ages.{rowAt, byAges, sentOf}
-use Rattle.queue.specs.declared.Request.{Request}
+use Rattle.ages.specs.Ages.{rowAt}
 use Rattle.queue.specs.Places.{getOf}
 use Rattle.refresh.specs.declared.Counters.{Counters}
-use Rattle.plan.specs.declared.Action.{Action}
-use Rattle.plan.specs.declared.Outcome.{Outcome}
 use Rattle.plan.specs.Actions.{underWay}
-use Rattle.plan.specs.Plan.{Plan, quietly, outcomeOf, tries, rest, planOf, queueAfter, countersAfter}
+use Rattle.plan.specs.Plan.{queueAfter, countersAfter}
 use Rattle.plan.specs.Choice.{Choice, currentOf}
 use Rattle.plan.specs.Slot.{tickedOf, turnOf}
+use Rattle.soundness.proofs.Plans.{Served, performedOf, servedOf}
 use Rattle.sequencer.specs.declared.Machine.{Machine}
 use Rattle.sequencer.specs.declared.Slot.{Slot}
 use Rattle.sequencer.specs.Machine.{machineWith, stepOf}
-
--- what a plan gives: the past after it, the slot's command, and what follows
-pub record Served : Type 0 where
-  pub past : Past
-  pub command : Command
-  pub outcome : Outcome
-
--- a plan carried out on the past as it is kept
-unfoldable pub performedOf : Config → Past → Plan → Served
-performedOf c p plan =
-    record {
-      past = sentOf p (carriedOf c (byAges c p) (plan .command));
-      command = carriedOf c (byAges c p) (plan .command);
-      outcome = outcomeOf (legalOf c (byAges c p) (plan .command)) (plan .sent) (plan .stays);
-    }
-
--- the slot of an action; r is the request under way, and `bus` the halfword that the bus carries
-unfoldable pub servedOf : Config → Past → Request → Action → ℕ → Served
-servedOf c p r a bus = performedOf c p (planOf c (byAges c p) r a bus)
-
--- A machine's slot: its counters, its action, the action's plan carried out, and what follows.
 
 unfoldable pub countersOf : Machine → Counters
 countersOf m = tickedOf (m .config) (m .counters) (m .control .action)
@@ -68,32 +37,3 @@ afterOf m x s =
 pub step-is : (m : Machine) (bus : ℕ) → stepOf m bus ≡ afterOf m (chosenOf m) (actedOf m (chosenOf m) bus)
 unfolding stepOf turnOf countersOf chosenOf actedOf afterOf servedOf performedOf
 step-is m bus = refl
-
--- a slot that carries k, which is legal
-abbrev pub sending : Past → Command → Outcome → Served
-sending p k o = record { past = sentOf p k; command = k; outcome = o }
-
-module _ (c : Config) (p : Past) where
-  pub performed-both : (P : Served → Type 0) (plan : Plan)
-      → (legalOf c (byAges c p) (plan .command) ≡ true → P (sending p (plan .command) (plan .sent)))
-      → (legalOf c (byAges c p) (plan .command) ≡ false → P (sending p Nop (quietly (plan .stays))))
-      → P (performedOf c p plan)
-  unfolding performedOf carriedOf outcomeOf
-  performed-both P plan yes′ no′ = by-test (legalOf c (byAges c p) (plan .command)) (λ e. rw e (yes′ e)) (λ e. rw e (no′ e))
-
-  pub rest-only : (P : Served → Type 0) (next : Action) → P (sending p Nop (quietly next)) → P (performedOf c p (rest next))
-  unfolding performedOf carriedOf legalOf requirements rest tries outcomeOf
-  rest-only P next h = h
-
-  pub legal-nop : legalOf c (byAges c p) Nop ≡ true
-  unfolding legalOf requirements
-  legal-nop = refl
-
-  -- a slot's command and the past after it
-  pub record Sends (s : Served) : Type 0 where
-    pub legal : legalOf c (byAges c p) (s .command) ≡ true
-    pub past : s .past ≡ sentOf p (s .command)
-
-  pub performed-sends : (plan : Plan) → Sends (performedOf c p plan)
-  performed-sends plan =
-      performed-both Sends plan (λ e. record { legal = e; past = refl }) (λ e. record { legal = legal-nop; past = refl })

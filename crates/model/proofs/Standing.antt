@@ -12,8 +12,10 @@ use Rattle.config.specs.declared.Config.{Config}
 use Rattle.config.specs.declared.Geometry.{Geometry}
 use Rattle.config.specs.Accepted.{Accepted}
 use Rattle.address.proofs.Laws.{cell-within}
+use Rattle.device.specs.View.{allClosed}
 use Rattle.device.proofs.Alike.{allClosed-same}
 use Rattle.ages.specs.declared.Past.{Past}
+use Rattle.ages.specs.Ages.{rowAt}
 use Rattle.ages.proofs.Agree.{alike, same-verdict}
 use Rattle.queue.specs.declared.Queue.{Queue}
 use Rattle.queue.specs.declared.Request.{Request}
@@ -49,7 +51,7 @@ use Rattle.model.specs.Sdram.{Sdram}
 use Rattle.model.specs.Flat.{Flat}
 use Rattle.model.specs.World.{World}
 use Rattle.model.specs.Condition.{firstService, servedBy, expiries, refreshes, Standing, Exact}
-use Rattle.model.proofs.Invariant.{Kept, Good, Doing, Ordered, Timely}
+use Rattle.model.proofs.Invariant.{Kept, Good, Doing, Ordered, Settled, Timely}
 use Rattle.model.proofs.Order.Queue.{ordered-agree}
 use Rattle.model.proofs.Calls.{backlog-reads}
 use Rattle.model.proofs.Start.{Starting, starting-below}
@@ -123,12 +125,13 @@ tally {c} {w} a v = go (inService (w .machine .control .action)) refl (v .timed)
 -- Soundness.
 
 -- the action, by the initialisation's slots and in service
-starting-sound : (c : Config) (p : Past) (now count : ℕ) (a : Action) → Starting c p now a → SoundAction (c .rr) (p .programmed) count a
+starting-sound : (c : Config) (p : Past) (now count : ℕ) (a : Action) → Starting c p now a
+    → SoundAction c (p .programmed) (allClosed (rowAt p)) count a
 starting-sound c p now count (PowerUp k) s = (s .1, s .2)
 starting-sound c p now count InitPrecharge s = tt
-starting-sound c p now count (InitRefresh k) s = (s .least, s .most)
-starting-sound c p now count InitMode s = tt
-starting-sound c p now count InitSettle s = tt
+starting-sound c p now count (InitRefresh k) s = (s .closed .closed, s .least, s .most)
+starting-sound c p now count InitMode s = s .closed .closed
+starting-sound c p now count InitSettle s = s .programmed
 starting-sound c p now count Idle s = s .programmed
 starting-sound c p now count (Access i) s = absurd s
 starting-sound c p now count (CasLatency i left) s = absurd s
@@ -137,33 +140,33 @@ starting-sound c p now count PrechargeAll s = absurd s
 starting-sound c p now count Refresh s = absurd s
 starting-sound c p now count (RefreshCycle left) s = absurd s
 
-serving-sound : (rr : ℕ) (p : Past) (q : Queue) (d : Sdram) (f : Flat) (a : Action) → inService a ≡ true → p .programmed ≡ true → Tidy q → Doing q d f a
-    → SoundAction rr (p .programmed) (q .count) a
-serving-sound rr p q d f (PowerUp k) e m t v = absurd (false≢true e)
-serving-sound rr p q d f InitPrecharge e m t v = absurd (false≢true e)
-serving-sound rr p q d f (InitRefresh k) e m t v = absurd (false≢true e)
-serving-sound rr p q d f InitMode e m t v = absurd (false≢true e)
-serving-sound rr p q d f InitSettle e m t v = absurd (false≢true e)
-serving-sound rr p q d f Idle e m t v = m
-serving-sound rr p q d f (Access i) e m t v = (m, omega (arith, v .within, tidy-length t))
-serving-sound rr p q d f (CasLatency i left) e m t v = (m, omega (arith, v .servable .within, tidy-length t))
-serving-sound rr p q d f Turnaround e m t v = m
-serving-sound rr p q d f PrechargeAll e m t v = m
-serving-sound rr p q d f Refresh e m t v = m
-serving-sound rr p q d f (RefreshCycle left) e m t v = m
+serving-sound : (c : Config) (p : Past) (q : Queue) (d : Sdram) (f : Flat) (a : Action) → inService a ≡ true → p .programmed ≡ true → Settled c p a → Tidy q
+    → Doing q d f a → SoundAction c (p .programmed) (allClosed (rowAt p)) (q .count) a
+serving-sound c p q d f (PowerUp k) e m s t v = absurd (false≢true e)
+serving-sound c p q d f InitPrecharge e m s t v = absurd (false≢true e)
+serving-sound c p q d f (InitRefresh k) e m s t v = absurd (false≢true e)
+serving-sound c p q d f InitMode e m s t v = absurd (false≢true e)
+serving-sound c p q d f InitSettle e m s t v = absurd (false≢true e)
+serving-sound c p q d f Idle e m s t v = m
+serving-sound c p q d f (Access i) e m s t v = (m, omega (arith, v .within, tidy-length t))
+serving-sound c p q d f (CasLatency i left) e m s t v = (m, omega (arith, v .servable .within, tidy-length t), s .1, s .2)
+serving-sound c p q d f Turnaround e m s t v = m
+serving-sound c p q d f PrechargeAll e m s t v = m
+serving-sound c p q d f Refresh e m s t v = (m, s .1)
+serving-sound c p q d f (RefreshCycle left) e m s t v = (m, s .1, s .2)
 
 good-inside : (g : Geometry) (l : List Request) → Each (Good g) l → Inside g l
 good-inside g l e = each-map (λ r h. rw (h .cell) (cell-within g (r .address) (h .ok .1))) e
 
 action-sound : {c : Config} {w : World} → Whole c w
-    → SoundAction (c .rr) (w .machine .past .programmed) (w .machine .queue .count) (w .machine .control .action)
+    → SoundAction c (w .machine .past .programmed) (allClosed (rowAt (w .machine .past))) (w .machine .queue .count) (w .machine .control .action)
 action-sound {c} {w} v = go (inService (w .machine .control .action)) refl (v .timed)
   where
     go : (b : Bool) → inService (w .machine .control .action) ≡ b → Phase c w b
-        → SoundAction (c .rr) (w .machine .past .programmed) (w .machine .queue .count) (w .machine .control .action)
+        → SoundAction c (w .machine .past .programmed) (allClosed (rowAt (w .machine .past))) (w .machine .queue .count) (w .machine .control .action)
     go false e t = starting-sound c (w .machine .past) (w .sdram .log .now) (w .machine .queue .count) (w .machine .control .action) (t .starting)
     go true e t =
-        serving-sound (c .rr) (w .machine .past) (w .machine .queue) (w .sdram) (w .flat) (w .machine .control .action) e (t .timely .programmed)
+        serving-sound c (w .machine .past) (w .machine .queue) (w .sdram) (w .flat) (w .machine .control .action) e (t .timely .programmed) (t .timely .settled)
         (v .ordered .tidy) (v .ordered .doing)
 
 module _ {c : Config} {w : World} (a : Accepted c) (v : Whole c w) where

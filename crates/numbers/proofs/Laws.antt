@@ -9,8 +9,10 @@ use Rattle.config.specs.Accepted.{Accepted, acceptedOf}
 use Rattle.config.proofs.Laws.{accepted-true, true-accepted}
 use Rattle.address.specs.Map.{addressNumberOf, capacityOf}
 use Rattle.address.proofs.Laws.{address-good}
+use Rattle.device.specs.View.{allClosed}
 use Rattle.device.proofs.Tests.{both}
 use Rattle.ages.specs.declared.Past.{Past}
+use Rattle.ages.specs.Ages.{rowAt}
 use Rattle.queue.specs.declared.Queue.{Queue}
 use Rattle.queue.specs.Places.{heldOf}
 use Rattle.queue.specs.Sound.{insideOf, soundQueue}
@@ -30,7 +32,7 @@ use Rattle.numbers.specs.Numbers.{recordNumberBy, lastNumber, roomNumber
 pub record SoundFacts (c : Config) (p : Past) (n : Counters) (x : Control) (q : Queue) : Type 0 where
   pub accepted : Accepted c
   pub counters : Bounded (c .rr) n
-  pub action : SoundAction (c .rr) (p .programmed) (q .count) (x .action)
+  pub action : SoundAction c (p .programmed) (allClosed (rowAt p)) (q .count) (x .action)
   pub queue : SoundQueue (c .geometry) q
 
 -- what an accepted request found
@@ -58,7 +60,7 @@ module _ (b : Bool) (c : Config) (p : Past) (n : Counters) (x : Control) (q : Qu
   fit-true h =
       let a = acceptedOf c in
       let s = soundCounters (c .rr) n in
-      let t = soundAction (c .rr) (p .programmed) (q .count) (x .action) in
+      let t = soundAction c (p .programmed) (allClosed (rowAt p)) (q .count) (x .action) in
       let d = soundQueue (c .geometry) q in
       let u = both a (s && (t && d)) h in
       let v = both s (t && d) (u .1) in
@@ -66,7 +68,7 @@ module _ (b : Bool) (c : Config) (p : Past) (n : Counters) (x : Control) (q : Qu
       record {
         accepted = accepted-true _ (u .0);
         counters = sound-bounded _ _ (v .0);
-        action = sound-action _ _ _ (x .action) (w .0);
+        action = sound-action _ _ _ _ (x .action) (w .0);
         queue = sound-queue _ _ (w .1);
       }
 
@@ -76,7 +78,7 @@ module _ (b : Bool) (c : Config) (p : Past) (n : Counters) (x : Control) (q : Qu
       simp (
         true-accepted _ (f .accepted),
         bounded-sound _ _ (f .counters),
-        action-sound _ _ _ (x .action) (f .action),
+        action-sound _ _ _ _ (x .action) (f .action),
         queue-sound _ _ (f .queue),
       )
 
@@ -124,10 +126,10 @@ module _ (b : Bool) (c : Config) (p : Past) (n : Counters) (x : Control) (q : Qu
 
   -- The code's tests: what it tests in one, and what it tests after that.
   fit-parts : fitBy c p n x q
-      ≡ (acceptedOf c && (stateSound (c .rr) n (x .action) (p .programmed) (q .count) && insideOf (c .geometry) (heldOf q)))
+      ≡ (acceptedOf c && (stateSound c p n (x .action) (q .count) && insideOf (c .geometry) (heldOf q)))
   unfolding fitBy stateSound soundQueue
   fit-parts =
-      go (acceptedOf c) (soundCounters (c .rr) n) (soundAction (c .rr) (p .programmed) (q .count) (x .action)) (leb (q .count) 8)
+      go (acceptedOf c) (soundCounters (c .rr) n) (soundAction c (p .programmed) (allClosed (rowAt p)) (q .count) (x .action)) (leb (q .count) 8)
       (insideOf (c .geometry) (heldOf q))
     where
       go : (a s t d e : Bool) → (a && (s && (t && (d && e)))) ≡ (a && ((s && (d && t)) && e))
@@ -147,13 +149,12 @@ module _ (b : Bool) (c : Config) (p : Past) (n : Counters) (x : Control) (q : Qu
   unfolding recordNumberBy soundBy
   configured-number e = rw e
 
-  pub number-parts : b ≡ true → {s t d : Bool} → s ≡ acceptedOf c → t ≡ stateSound (c .rr) n (x .action) (p .programmed) (q .count)
+  pub number-parts : b ≡ true → {s t d : Bool} → s ≡ acceptedOf c → t ≡ stateSound c p n (x .action) (q .count)
       → d ≡ insideOf (c .geometry) (heldOf q)
       → recordNumberBy b c p n x q ≡ cond (s && (t && d)) 0 9
   number-parts e f g h = configured-number e ∙ ap (λ y. cond y 0 9) fit-parts ∙ rw (f, g, h)
 
 -- what is asked of the queue's test
-pub state-few : (rr : ℕ) (n : Counters) (a : Action) (programmed : Bool) (count : ℕ) → stateSound rr n a programmed count ≡ true → count ≤ 8
+pub state-few : (c : Config) (p : Past) (n : Counters) (a : Action) (count : ℕ) → stateSound c p n a count ≡ true → count ≤ 8
 unfolding stateSound
-state-few rr n a programmed count h =
-    leb-true _ _ (both (leb count 8) _ (both (soundCounters rr n) _ h .1) .0)
+state-few c p n a count h = leb-true _ _ (both (leb count 8) _ (both (soundCounters (c .rr) n) _ h .1) .0)

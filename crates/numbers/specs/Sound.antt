@@ -2,7 +2,9 @@
 use mathlib.Core.Bool.{Bool, true, cond, _&&_}
 use Rattle.config.specs.declared.Config.{Config}
 use Rattle.config.specs.Accepted.{acceptedOf}
+use Rattle.device.specs.View.{allClosed}
 use Rattle.ages.specs.declared.Past.{Past}
+use Rattle.ages.specs.Ages.{rowAt}
 use Rattle.queue.specs.declared.Queue.{Queue}
 use Rattle.queue.specs.Sound.{soundQueue}
 use Rattle.refresh.specs.declared.Counters.{Counters}
@@ -14,7 +16,9 @@ use Rattle.plan.specs.Actions.{soundAction}
 unfoldable pub fitBy : Config → Past → Counters → Control → Queue → Bool
 fitBy c p n x q =
     acceptedOf c
-    && (soundCounters (c .rr) n && (soundAction (c .rr) (p .programmed) (q .count) (x .action) && soundQueue (c .geometry) q))
+    && (soundCounters (c .rr) n
+    && (soundAction c (p .programmed) (allClosed (rowAt p)) (q .count) (x .action)
+    && soundQueue (c .geometry) q))
 
 -- a blank machine is sound
 unfoldable pub soundBy : Bool → Config → Past → Counters → Control → Queue → Bool

@@ -3,10 +3,14 @@
 use Prim.Native.Nat.{ℕ}
 use mathlib.Core.Bool.{Bool, _&&_}
 use lib.Dec.{leb}
+use Rattle.config.specs.declared.Config.{Config}
+use Rattle.device.specs.View.{allClosed}
+use Rattle.ages.specs.declared.Past.{Past}
+use Rattle.ages.specs.Ages.{rowAt}
 use Rattle.refresh.specs.declared.Counters.{Counters}
 use Rattle.refresh.specs.Counting.{soundCounters}
 use Rattle.plan.specs.declared.Action.{Action}
 use Rattle.plan.specs.Actions.{soundAction}
 
-unfoldable pub stateSound : ℕ → Counters → Action → Bool → ℕ → Bool
-stateSound rr n a programmed count = soundCounters rr n && (leb count 8 && soundAction rr programmed count a)
+unfoldable pub stateSound : Config → Past → Counters → Action → ℕ → Bool
+stateSound c p n a count = soundCounters (c .rr) n && (leb count 8 && soundAction c (p .programmed) (allClosed (rowAt p)) count a)

@@ -14,23 +14,17 @@ const LAST: u32 = 4294967295;
 // Soundness, the test for number 9; docs/SOUNDNESS.md says it in words. It is made on parts of the machine, so that the machine is not copied for it.
 
 // All of it but the configuration and the queued cells: the counters, the number of requests, the action under way.
-pub fn state_sound(
-    rr: u16,
-    counters: Counters,
-    control: Control,
-    programmed: bool,
-    count: usize,
-) -> bool
-    ensures { λ r. ⌜ r ≡ stateSound rr counters (control .action) programmed count ⌝ }
+pub fn state_sound(config: Config, past: Past, counters: Counters, control: Control, count: usize) -> bool
+    ensures { λ r. ⌜ r ≡ stateSound config past counters (control .action) count ⌝ }
 {
-    if !counters.sound(rr) {
+    if !counters.sound(config.rr) {
         return false;
     }
     if 8 < count {
         return false;
     }
     let action = control.action;
-    actions::action_sound(rr, programmed, count, action)
+    actions::action_sound(config, past, count, action)
 }
 
 // What every call tests first: 9, then 8. `Machine::slot` makes these tests itself.
@@ -50,7 +44,7 @@ pub fn record_number(
     if !config::accepted(config) {
         return 9;
     }
-    if !state_sound(config.rr, counters, control, past.programmed, queue.count) {
+    if !state_sound(config, past, counters, control, queue.count) {
         return 9;
     }
     if queue.inside(config.geometry) {

@@ -75,17 +75,18 @@ firstAction c = PowerUp (8 * c .rr)
 abbrev pub counts : ℕ → ℕ → Bool
 counts n most = leb 1 n && leb n most
 
--- `programmed`: an MRS was sent; `count`: so many requests are queued
-unfoldable pub soundAction : ℕ → Bool → ℕ → Action → Bool
-soundAction rr programmed count (PowerUp n) = counts n (8 * rr)
-soundAction rr programmed count InitPrecharge = true
-soundAction rr programmed count (InitRefresh n) = counts n 8
-soundAction rr programmed count InitMode = true
-soundAction rr programmed count InitSettle = true
-soundAction rr programmed count Idle = programmed
-soundAction rr programmed count (Access i) = programmed && ltb i count
-soundAction rr programmed count (CasLatency i left) = programmed && ltb i count
-soundAction rr programmed count Turnaround = programmed
-soundAction rr programmed count PrechargeAll = programmed
-soundAction rr programmed count Refresh = programmed
-soundAction rr programmed count (RefreshCycle left) = programmed
+-- `programmed`: an MRS was sent; `closed`: all banks are closed; `count`: so many requests are queued. Counts are in their ranges; REFR and MRS come
+-- only with all banks closed; in service an MRS was sent, and the request under way is queued
+unfoldable pub soundAction : Config → Bool → Bool → ℕ → Action → Bool
+soundAction c programmed closed count (PowerUp n) = counts n (8 * c .rr)
+soundAction c programmed closed count InitPrecharge = true
+soundAction c programmed closed count (InitRefresh n) = closed && counts n 8
+soundAction c programmed closed count InitMode = closed
+soundAction c programmed closed count InitSettle = programmed
+soundAction c programmed closed count Idle = programmed
+soundAction c programmed closed count (Access i) = programmed && ltb i count
+soundAction c programmed closed count (CasLatency i left) = programmed && (ltb i count && counts left (c .latency))
+soundAction c programmed closed count Turnaround = programmed
+soundAction c programmed closed count PrechargeAll = programmed
+soundAction c programmed closed count Refresh = programmed && closed
+soundAction c programmed closed count (RefreshCycle left) = programmed && (leb 1 left && ltb left (c .rfc))

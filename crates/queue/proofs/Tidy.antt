@@ -51,7 +51,7 @@ tidy-accept {q} r t = go (decLt (q .count) 8)
         })
     go (no h) = simp (le-ltb (q .count) 8 (omega arith)) t
 
-take-without : (at n : ℕ) (l : List Request) → at ≤ n → take n (without at l) ≡ without at (take (suc n) l)
+pub take-without : (at n : ℕ) (l : List Request) → at ≤ n → take n (without at l) ≡ without at (take (suc n) l)
 unfolding without
 take-without zero n [] h = take-nil n
 take-without (suc at) n [] h = take-nil n

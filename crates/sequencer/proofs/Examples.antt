@@ -88,6 +88,24 @@ shaped c b r =
 abbrev e1 : Config
 e1 = shaped 8 0 9
 
+-- the same device with tRFC 3: F 5, RR 39
+abbrev cycling : Config
+cycling =
+    record {
+      geometry = e1 .geometry;
+      latency = 2;
+      rfc = 3;
+      rp = 1;
+      rcd = 1;
+      wr = 1;
+      ras = 1;
+      rc = 1;
+      rrd = 1;
+      rr = 39;
+      access = 9;
+      refresh = 5;
+    }
+
 -- the device after its initialisation, with row 1 open, or with none
 abbrev known : Bool → Past
 known opened =
@@ -131,6 +149,10 @@ holding b r c = at e1 (counted 27 0) (acceptOf emptyOf (askAt Kind.Read 1 0 b r 
 abbrev early : Queue → Action → Machine
 early q a = made e1 freshOf (counted 27 0) false q a 0
 
+-- with a bank open
+abbrev opened : Action → Machine
+opened a = made e1 (known true) (counted 27 0) false emptyOf a 8
+
 sound : List Machine
 sound =
     blankOf
@@ -141,15 +163,19 @@ sound =
     ∷ early emptyOf (InitRefresh 1)
     ∷ early emptyOf (InitRefresh 8)
     ∷ early emptyOf InitMode
-    ∷ early emptyOf InitSettle
+    ∷ at e1 (counted 27 0) emptyOf InitSettle
+    ∷ opened InitPrecharge
+    ∷ opened PrechargeAll
     ∷ at (shaped 11 2 13) (counted 27 0) emptyOf Idle
     ∷ at e1 (counted 1 15) emptyOf Idle
     ∷ at e1 (counted 27 0) (filled 8) (Access 7)
-    ∷ at e1 (counted 27 0) (filled 2) (CasLatency 1 255)
+    ∷ at e1 (counted 27 0) (filled 2) (CasLatency 1 1)
+    ∷ at e1 (counted 27 0) (filled 2) (CasLatency 1 2)
     ∷ at e1 (counted 27 0) emptyOf Turnaround
     ∷ at e1 (counted 27 0) emptyOf PrechargeAll
     ∷ at e1 (counted 27 0) emptyOf Refresh
-    ∷ at e1 (counted 27 0) emptyOf (RefreshCycle 255)
+    ∷ at cycling (counted 39 0) emptyOf (RefreshCycle 1)
+    ∷ at cycling (counted 39 0) emptyOf (RefreshCycle 2)
     ∷ holding 0 511 255
     ∷ []
 
@@ -159,7 +185,8 @@ unsound =
     ∷ early emptyOf (PowerUp 217)
     ∷ early emptyOf (InitRefresh 0)
     ∷ early emptyOf (InitRefresh 9)
-    -- service before any MRS
+    -- the end of the initialisation, and service, before any MRS
+    ∷ early emptyOf InitSettle
     ∷ early emptyOf Idle
     ∷ early (filled 2) (Access 1)
     ∷ early (filled 2) (CasLatency 1 2)
@@ -167,6 +194,15 @@ unsound =
     ∷ early emptyOf PrechargeAll
     ∷ early emptyOf Refresh
     ∷ early emptyOf (RefreshCycle 1)
+    -- REFR and MRS with a bank open
+    ∷ opened (InitRefresh 8)
+    ∷ opened InitMode
+    ∷ opened Refresh
+    -- counts out of their ranges: CL is 2, tRFC 3
+    ∷ at e1 (counted 27 0) (filled 2) (CasLatency 1 0)
+    ∷ at e1 (counted 27 0) (filled 2) (CasLatency 1 3)
+    ∷ at cycling (counted 39 0) emptyOf (RefreshCycle 0)
+    ∷ at cycling (counted 39 0) emptyOf (RefreshCycle 3)
     ∷ at (shaped 7 0 9) (counted 27 0) emptyOf Idle
     ∷ at (shaped 12 0 9) (counted 27 0) emptyOf Idle
     ∷ at (shaped 8 3 9) (counted 27 0) emptyOf Idle
@@ -277,8 +313,8 @@ slots =
     (serving (known true) (counted 8 0) false emptyOf Idle)
     ∷ row (serving (known true) (counted 9 5) true emptyOf Turnaround) 5 0 Nop Nothing
     (serving (known true) (counted 8 5) true emptyOf Idle)
-    ∷ row (serving (known true) (counted 1 11) false emptyOf (RefreshCycle 3)) 5 0 Nop Nothing
-    (serving (known true) (counted 27 12) false emptyOf (RefreshCycle 2))
+    ∷ row (made cycling (known false) (counted 1 11) false emptyOf (RefreshCycle 2) 8) 5 0 Nop Nothing
+    (made cycling (known false) (counted 39 12) false emptyOf (RefreshCycle 1) 8)
     -- the reports of a read and of a write
     ∷ row (serving (known true) (counted 9 0) false oneRead (CasLatency 0 1)) 5 0 Nop (Report.Read 1 5)
     (serving (known true) (counted 8 0) false emptyOf Turnaround)
@@ -291,7 +327,7 @@ slots =
 
 -- `room`: a queue of eight that one request has left has room for one. `last`: the last number is given.
 record Examples : Type 0 where
-  soundness : map soundOf sound ++ map soundOf unsound ≡ replicate 18 true ++ replicate 25 false
+  soundness : map soundOf sound ++ map soundOf unsound ≡ replicate 22 true ++ replicate 33 false
   configured : words ≡ record { number = 0; machine = machineOf e1 } ∷ map refused (1 ∷ 1 ∷ 1 ∷ 1 ∷ 2 ∷ 2 ∷ 3 ∷ [])
   reads : map (λ f. readRequestOf (f .machine) (f .address)) refusals ≡ map unchanged refusals
   writes : map (λ f. writeRequestOf (f .machine) (f .address) 7) refusals ≡ map unchanged refusals

@@ -268,7 +268,7 @@ impl Machine {
         let counters = self.counters;
         let control = self.control;
         let queue = self.queue;
-        if !numbers::state_sound(config.rr, counters, control, past.programmed, queue.count) {
+        if !numbers::state_sound(config, past, counters, control, queue.count) {
             return self.refused(9);
         }
         if !queue.inside(config.geometry) {

@@ -74,8 +74,8 @@ use Rattle.plan.specs.Plan.{
   queueAfter,
   countersAfter,
 }
+use Rattle.soundness.proofs.Plans.{Served, performedOf, servedOf, sending, performed-both, rest-only}
 use Rattle.model.specs.Condition.{isRefr}
-use Rattle.model.proofs.Plans.{Served, performedOf, servedOf, sending, performed-both, rest-only}
 use Rattle.model.proofs.Invariant.{
   short,
   bankHeld,
@@ -254,10 +254,10 @@ module _ {c : Config} (ok : Accepted c) (p : Past) (programmed : p .programmed �
       let w : 1 ≤ allHeld c p = waits (allHeld c p) (deac-ready c p (record { cycle = h; mode = mode })) e in
       quiet-advances Nop PrechargeAll refl refl (rested ok p Nop refl h) (omega (arith, all-falls ok p .by)) (omega arith) (λ o. o))
 
-  cycle-advances : (left : ℕ) → c .rfc ≤ ageOf p refreshCycle + left → 1 ≤ left
+  cycle-advances : (left : ℕ) → c .rfc ≤ ageOf p refreshCycle + left → 1 ≤ left → left < c .rfc
       → Advanced c p q (RefreshCycle left) n (performedOf c p (rest (cycleLeft (left - 1))))
   unfolding cycleLeft marksOf
-  cycle-advances left h i =
+  cycle-advances left h i j =
       let older = cycle-sent p Nop refl in
       if-both (λ next. Advanced c p q (RefreshCycle left) n (performedOf c p (rest next))) (leb (left - 1) 0)
       (λ e. let z = leb-true (left - 1) 0 e in
@@ -265,7 +265,7 @@ module _ {c : Config} (ok : Accepted c) (p : Past) (programmed : p .programmed �
       (quiet-advances Nop Idle refl refl (omega (arith, ok .rfc-most)) (omega arith) (omega arith) (λ o. o)))
       (λ e. let z = leb-false (left - 1) 0 e in
       rest-only c p (Advanced c p q (RefreshCycle left) n) (RefreshCycle (left - 1))
-      (quiet-advances Nop (RefreshCycle (left - 1)) refl refl (omega (arith, ok .rfc-most), z) (omega arith) (omega arith) (λ o. o)))
+      (quiet-advances Nop (RefreshCycle (left - 1)) refl refl (omega (arith, ok .rfc-most), z, omega arith) (omega arith) (omega arith) (λ o. o)))
 
   refr-age : ageOf (sentOf p Refr) refreshCycle ≡ 1
   unfolding marksOf
@@ -295,7 +295,7 @@ module _ {c : Config} (ok : Accepted c) (p : Past) (programmed : p .programmed �
       (λ e. let z = leb-true (c .rfc - 1) 0 e in
       refreshed-advances Idle (omega arith) (omega (arith, ok .rfc-least)) (omega arith) (λ m. tt))
       (λ e. let z = leb-false (c .rfc - 1) 0 e in
-      refreshed-advances (RefreshCycle (c .rfc - 1)) (omega arith, z) (omega arith) (omega arith) (λ m. tt))
+      refreshed-advances (RefreshCycle (c .rfc - 1)) (omega arith, z, omega (arith, ok .rfc-least)) (omega arith) (omega arith) (λ m. tt))
 
   refresh-advances : c .rfc ≤ ageOf p refreshCycle → allClosed (rowAt p) ≡ true → Advanced c p q Refresh n (performedOf c p (refreshPlan c))
   unfolding refreshPlan marksOf
@@ -308,10 +308,10 @@ module _ {c : Config} (ok : Accepted c) (p : Past) (programmed : p .programmed �
       quiet-advances Nop Refresh refl refl (rested ok p Nop refl h, nop-closed p closed) (omega arith) (omega arith) (λ o. o))
 
   -- a read whose halfword is to come
-  latency-advances : (i left bus : ℕ) → c .rfc ≤ ageOf p refreshCycle → 1 ≤ left
+  latency-advances : (i left bus : ℕ) → c .rfc ≤ ageOf p refreshCycle → 1 ≤ left → left ≤ c .latency
       → Advanced c p q (CasLatency i left) n (performedOf c p (latencyPlan i left (getOf q i) bus))
   unfolding latencyPlan takenPlan marksOf queueAfter countersAfter
-  latency-advances i left bus h l =
+  latency-advances i left bus h l m =
       if-both (λ x. Advanced c p q (CasLatency i left) n (performedOf c p x)) (leb left 1)
       (λ e.
       performed-both c p (Advanced c p q (CasLatency i left) n) (takenPlan (getOf q i) bus)
@@ -326,7 +326,7 @@ module _ {c : Config} (ok : Accepted c) (p : Past) (programmed : p .programmed �
       (λ illegal. quiet-advances Nop Turnaround refl refl (rested ok p Nop refl h) (omega arith) (omega arith) (λ o. o)))
       (λ e. let z = leb-false left 1 e in
       rest-only c p (Advanced c p q (CasLatency i left) n) (CasLatency i (left - 1))
-      (quiet-advances Nop (CasLatency i (left - 1)) refl refl (rested ok p Nop refl h, omega arith) (omega arith) (omega arith) (λ o. o)))
+      (quiet-advances Nop (CasLatency i (left - 1)) refl refl (rested ok p Nop refl h, omega arith, omega arith) (omega arith) (omega arith) (λ o. o)))
 
   -- an access
   module _ (i : ℕ) (h : c .rfc ≤ ageOf p refreshCycle) (inside : Holds (c .geometry) (cellHeld (getOf q i))) where
@@ -427,7 +427,7 @@ module _ {c : Config} (ok : Accepted c) (p : Past) (programmed : p .programmed �
           let next : accessLeft c (sentOf p Nop) r ≡ transferLeft c (sentOf p Nop) Kind.Read b = left-kind c (sentOf p Nop) r t (still ∙ o) e in
           performed-both c p (Advanced c p q (Access i) n) (readPlan c i r)
           (λ l.
-          quiet-advances k (CasLatency i (c .latency)) refl refl (rested ok p k refl h, omega (arith, ok .latency-least)) (omega arith) (omega arith) (λ x. x))
+          quiet-advances k (CasLatency i (c .latency)) refl refl (rested ok p k refl h, omega (arith, ok .latency-least), omega arith) (omega arith) (omega arith) (λ x. x))
           (λ l.
           let w : 1 ≤ short c p (rowToColumn b)
           = waits _ (read-ready c p ready (r .bank) (r .column) (inside .bank) (inside .column) opened) l in
@@ -487,11 +487,11 @@ act-advances ok {p} programmed mode q InitMode s h i n bus = absurd s
 act-advances ok {p} programmed mode q InitSettle s h i n bus = absurd s
 act-advances ok {p} programmed mode q Idle s h i n bus = absurd (true≢false i)
 act-advances ok {p} programmed mode q (Access at) s h i n bus = access-advances ok p programmed mode q n at s h
-act-advances ok {p} programmed mode q (CasLatency at left) s h i n bus = latency-advances ok p programmed mode q n at left bus (s .0) (s .1)
+act-advances ok {p} programmed mode q (CasLatency at left) s h i n bus = latency-advances ok p programmed mode q n at left bus (s .0) (s .1) (s .2)
 act-advances ok {p} programmed mode q Turnaround s h i n bus = turnaround-advances ok p programmed mode q n s
 act-advances ok {p} programmed mode q PrechargeAll s h i n bus = precharge-advances ok p programmed mode q n s
 act-advances ok {p} programmed mode q Refresh s h i n bus = refresh-advances ok p programmed mode q n (s .0) (s .1)
-act-advances ok {p} programmed mode q (RefreshCycle left) s h i n bus = cycle-advances ok p programmed mode q n left (s .0) (s .1)
+act-advances ok {p} programmed mode q (RefreshCycle left) s h i n bus = cycle-advances ok p programmed mode q n left (s .0) (s .1) (s .2)
 
 -- What is left of an action at its choice.
 

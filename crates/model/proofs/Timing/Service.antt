@@ -52,10 +52,10 @@ use Rattle.plan.specs.declared.Control.{Control}
 use Rattle.plan.specs.Actions.{isIdle, underWay}
 use Rattle.plan.specs.Plan.{quietly, rest, planOf, queueAfter, countersAfter}
 use Rattle.plan.specs.Choice.{Choice, accessOr, needs, idleRefresh, rulesOf, choiceOf, currentOf}
+use Rattle.soundness.proofs.Plans.{Served, performedOf, servedOf, rest-only}
 use Rattle.model.specs.Sdram.{Sdram}
 use Rattle.model.specs.Flat.{Flat}
 use Rattle.model.specs.Condition.{isRefr}
-use Rattle.model.proofs.Plans.{Served, performedOf, servedOf, rest-only}
 use Rattle.model.proofs.Invariant.{Good, Doing, leftOf, needOf, Settled, Owing, Timely}
 use Rattle.model.proofs.Timing.Actions.{Placed, queueLeft, Backlog, stays, falls, Advanced, programmed-sent, mode-sent, rested, act-advances, refresh-bound, access-bound}
 

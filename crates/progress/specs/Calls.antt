@@ -1,0 +1,35 @@
+-- Calls on a machine alone: any requests, and anything on the bus.
+use Prim.Native.Nat.{ℕ, _+_}
+use mathlib.Core.Bool.{Bool, false, _||_}
+use mathlib.Core.List.{List, [], _∷_}
+use Rattle.plan.specs.Actions.{isIdle}
+use Rattle.sequencer.specs.declared.Machine.{Machine}
+use Rattle.sequencer.specs.Calls.{readRequestOf, writeRequestOf, slotOf}
+use Rattle.model.specs.World.{Call, read, write, slot, backlog}
+
+-- the record after a call, and after a list of calls
+abbrev pub afterCall : Machine → Call → Machine
+afterCall m (read a) = readRequestOf m a .machine
+afterCall m (write a h) = writeRequestOf m a h .machine
+afterCall m (slot bus) = slotOf m bus .machine
+afterCall m backlog = m
+
+abbrev pub afterCalls : Machine → List Call → Machine
+afterCalls m [] = m
+afterCalls m (k ∷ ks) = afterCalls (afterCall m k) ks
+
+-- how many of the calls are slots
+abbrev pub slotsIn : List Call → ℕ
+slotsIn [] = 0
+slotsIn (read a ∷ ks) = slotsIn ks
+slotsIn (write a h ∷ ks) = slotsIn ks
+slotsIn (slot bus ∷ ks) = slotsIn ks + 1
+slotsIn (backlog ∷ ks) = slotsIn ks
+
+-- is a choice made in one of their slots?
+abbrev pub chooses : Machine → List Call → Bool
+chooses m [] = false
+chooses m (read a ∷ ks) = chooses (afterCall m (read a)) ks
+chooses m (write a h ∷ ks) = chooses (afterCall m (write a h)) ks
+chooses m (slot bus ∷ ks) = isIdle (m .control .action) || chooses (afterCall m (slot bus)) ks
+chooses m (backlog ∷ ks) = chooses m ks

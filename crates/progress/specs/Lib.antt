@@ -1,0 +1,3 @@
+-- What keeps a terminal going.
+pub mod Calls
+pub mod Progress
