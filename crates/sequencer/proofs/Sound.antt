@@ -8,7 +8,7 @@ use lib.Dec.{eqb}
 use borrow.Author.Tests.{eqb-true}
 use Rattle.config.specs.declared.Config.{Config}
 use Rattle.config.specs.Accepted.{Accepted}
-use Rattle.config.specs.Setting.{settingOf}
+use Rattle.config.specs.Setting.{configOf, settingOf}
 use Rattle.config.proofs.Laws.{accepted}
 use Rattle.address.proofs.Laws.{cell-within}
 use Rattle.device.proofs.Tests.{if-both}
@@ -44,7 +44,7 @@ pub slot-keeps : (m : Machine) (bus : ℕ) → soundOf m ≡ true → soundOf (s
 unfolding slotOf refusedWith
 slot-keeps m bus h =
     if-both (λ (s : Slot). soundOf (s .machine) ≡ true) (eqb (recordNumberOf m) 0)
-    (λ e. facts-sound _ (step-sound m (record-facts m (eqb-true _ _ e)) bus))
+    (λ e. facts-sound (stepOf m bus .machine) (step-sound m (record-facts m (eqb-true _ _ e)) bus))
     (λ e. h)
 
 queued-sound : (m : Machine) (kind : Kind) (address halfword : ℕ) → RequestFacts m address
@@ -56,7 +56,9 @@ pub request-keeps : (m : Machine) (kind : Kind) (address halfword : ℕ) → sou
 unfolding requestOf
 request-keeps m kind address halfword h =
     if-both (λ (r : Requested). soundOf (r .machine) ≡ true) (eqb (requestNumberOf m address) 0)
-    (λ e. facts-sound _ (queued-sound m kind address halfword (request-facts m address (eqb-true _ _ e))))
+    (λ e.
+    facts-sound (enqueuedOf m (queuedRequest m kind address halfword) .machine)
+    (queued-sound m kind address halfword (request-facts m address (eqb-true _ _ e))))
     (λ e. h)
 
 -- the machine that an accepted configuration gives
@@ -74,5 +76,5 @@ pub configure-keeps : (cfg row ref tim : ℕ) → soundOf (configureOf cfg row r
 unfolding configureOf configuredBy
 configure-keeps cfg row ref tim =
     if-both (λ (x : Configured). soundOf (x .machine) ≡ true) (eqb (settingOf cfg row ref tim .number) 0)
-    (λ e. let t = accepted cfg row ref tim (eqb-true _ _ e) in rw (t .0) (facts-sound _ (start-facts _ (t .1))))
+    (λ e. let t = accepted cfg row ref tim (eqb-true _ _ e) in rw (t .0) (facts-sound (machineOf (configOf cfg row ref tim)) (start-facts _ (t .1))))
     (λ e. sound-blank)
