@@ -36,6 +36,7 @@ use Rattle.plan.specs.declared.Action.the-variants.{
 }
 use Rattle.plan.specs.Actions.{isIdle, inService, firstAction}
 use Rattle.plan.specs.Plan.{quietly, tries, rest, afterPause, afterInitRefresh, modeWord, planOf}
+use Rattle.soundness.proofs.Past.{nop-closed, refr-closed, deac-closed}
 use Rattle.soundness.proofs.Plans.{Served, performedOf, servedOf, performed-both, rest-only}
 use Rattle.model.specs.Condition.{firstService}
 use Rattle.model.proofs.Timing.Distances.{R14-closed}
@@ -93,24 +94,11 @@ fresh-deac : (c : Config) → c .rfc ≤ cap → legalOf c (byAges c freshOf) De
 unfolding legalOf requirements R12-open R13-open freshOf rowAt rowIn openedOf
 fresh-deac c h = simp (le-leb (c .rfc) cap h)
 
-closed-deac : allClosed (rowAt (sentOf freshOf Deac)) ≡ true
-unfolding allClosed rowAt rowIn openedOf sentOf freshOf marksOf rowOf
-closed-deac = refl
-
 -- an age after a command that does not start it
 older : (p : Past) (k : Command) (d : Distance) → Known d → starts d k ≡ false → ageOf (sentOf p k) d ≡ min cap (suc (ageOf p d))
 older p k d h f = rw (sent-age p k d h, f)
 
--- REFR, MRS and NOP open no bank
 module _ (p : Past) where
-  closed-nop : allClosed (rowAt (sentOf p Nop)) ≡ allClosed (rowAt p)
-  unfolding allClosed marksOf
-  closed-nop = rw (sent-row p Nop 0 (lit< tt), sent-row p Nop 1 (lit< tt), sent-row p Nop 2 (lit< tt), sent-row p Nop 3 (lit< tt))
-
-  closed-refr : allClosed (rowAt (sentOf p Refr)) ≡ allClosed (rowAt p)
-  unfolding allClosed marksOf
-  closed-refr = rw (sent-row p Refr 0 (lit< tt), sent-row p Refr 1 (lit< tt), sent-row p Refr 2 (lit< tt), sent-row p Refr 3 (lit< tt))
-
   -- the ages after a NOP, a REFR and an MRS
   nop-ages : (ageOf (sentOf p Nop) refreshCycle ≡ min cap (suc (ageOf p refreshCycle)))
       × (ageOf (sentOf p Nop) anyPrecharge ≡ min cap (suc (ageOf p anyPrecharge)))
@@ -133,6 +121,11 @@ module _ (p : Past) where
       × (sentOf p (Mrs w) .programmed ≡ true)
   unfolding sentOf marksOf
   mrs-ages w = (older p (Mrs w) refreshCycle tt refl, sent-age p (Mrs w) modeRegister tt, refl)
+
+-- an MRS's rules are R1 and a REFR's
+pub mrs-refr : (c : Config) (p : Past) → legalOf c (byAges c p) (Mrs (modeWord c)) ≡ legalOf c (byAges c p) Refr
+unfolding legalOf requirements
+mrs-refr c p = rw (eq-eqb (modeWord c) (modeWord c) refl)
 
 -- REFR and MRS are legal exactly when both distances are kept
 module _ (c : Config) (p : Past) (q : Closed p) where
@@ -157,19 +150,15 @@ module _ (c : Config) (p : Past) (q : Closed p) where
       let y = both (leb 2 (ageOf p modeRegister)) others (x .1) in
       (leb-true _ _ (x .0), rest-kept (y .1))
 
-  -- an MRS's rules are R1 and a REFR's
-  mrs-refr : legalOf c (byAges c p) (Mrs (modeWord c)) ≡ legalOf c (byAges c p) Refr
-  unfolding legalOf requirements
-  mrs-refr = rw (eq-eqb (modeWord c) (modeWord c) refl)
 
 quiet-nop : (p : Past) → Closed p → Closed (sentOf p Nop)
-quiet-nop p q = let e = nop-ages p .2 in record { closed = closed-nop p ∙ q .closed; unset = omega (arith, q .unset) }
+quiet-nop p q = let e = nop-ages p .2 in record { closed = nop-closed p ∙ q .closed; unset = omega (arith, q .unset) }
 
 quiet-refr : (p : Past) → Closed p → Closed (sentOf p Refr)
-quiet-refr p q = let e = refr-ages p .2 in record { closed = closed-refr p ∙ q .closed; unset = omega (arith, q .unset) }
+quiet-refr p q = let e = refr-ages p .2 in record { closed = refr-closed p ∙ q .closed; unset = omega (arith, q .unset) }
 
 -- n REFRs of tRFC each
-one-less : (n f : ℕ) → 1 ≤ n → n * f ≡ (n - 1) * f + f
+pub one-less : (n f : ℕ) → 1 ≤ n → n * f ≡ (n - 1) * f + f
 one-less n f h = let e : n ≡ (n - 1) + 1 = omega arith in ap (λ x. x * f) e ∙ omega arith
 
 -- The stages, one slot on.
@@ -189,7 +178,7 @@ module _ (c : Config) (a : Accepted c) where
   unfolding sentOf agesAfter freshOf agedOf marksOf rowOf
   precharging now e =
       record {
-        closed = record { closed = closed-deac; unset = omega arith };
+        closed = record { closed = deac-closed freshOf; unset = omega arith };
         least = omega arith;
         most = omega arith;
         one = inl (a .rfc-most);
@@ -254,7 +243,7 @@ module _ (c : Config) (a : Accepted c) where
 
   setting-sent : (p : Past) (now : ℕ) → ModeDue c p now → legalOf c (byAges c p) (Mrs (modeWord c)) ≡ true → Set c (sentOf p (Mrs (modeWord c))) 1 (suc now)
   setting-sent p now s legal =
-      let kept = refr-kept c p (s .closed) (sym (mrs-refr c p (s .closed)) ∙ legal) .0 in
+      let kept = refr-kept c p (s .closed) (sym (mrs-refr c p) ∙ legal) .0 in
       let ages = mrs-ages p (modeWord c) in
       record {
         programmed = ages .2;
@@ -268,7 +257,7 @@ module _ (c : Config) (a : Accepted c) where
       let ages = nop-ages p in
       let missing : ageOf p refreshCycle < c .rfc
       = by-test (leb (c .rfc) (ageOf p refreshCycle))
-      (λ h. absurd (true≢false (sym (mrs-refr c p (s .closed) ∙ refr-ready c p (s .closed) (leb-true _ _ h) (s .kept)) ∙ illegal)))
+      (λ h. absurd (true≢false (sym (mrs-refr c p ∙ refr-ready c p (s .closed) (leb-true _ _ h) (s .kept)) ∙ illegal)))
       (λ h. leb-false _ _ h) in
       record {
         closed = quiet-nop p (s .closed);

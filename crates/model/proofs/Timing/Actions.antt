@@ -74,6 +74,7 @@ use Rattle.plan.specs.Plan.{
   queueAfter,
   countersAfter,
 }
+use Rattle.soundness.proofs.Past.{programmed-kept, nop-closed, deac-closed}
 use Rattle.soundness.proofs.Plans.{Served, performedOf, servedOf, sending, performed-both, rest-only}
 use Rattle.model.specs.Condition.{isRefr}
 use Rattle.model.proofs.Invariant.{
@@ -156,15 +157,11 @@ pub record Advanced (c : Config) (p : Past) (q : Queue) (a : Action) (n : Counte
   pub backlog : Backlog c p q a n s
 
 -- a command that is not legal still waits for something
-waits : (x : ℕ) {t : Bool} → (x ≡ 0 → t ≡ true) → t ≡ false → 1 ≤ x
+pub waits : (x : ℕ) {t : Bool} → (x ≡ 0 → t ≡ true) → t ≡ false → 1 ≤ x
 waits zero f e = absurd (true≢false (sym (f refl) ∙ e))
 waits (suc x) f e = omega arith
 
 -- What a slot leaves of the past, whatever its command, but for MRS and REFR.
-
-pub programmed-sent : (p : Past) (k : Command) → starts modeRegister k ≡ false → p .programmed ≡ true → sentOf p k .programmed ≡ true
-unfolding sentOf
-programmed-sent p k f h = rw (f, h)
 
 older-sent : (p : Past) (k : Command) (d : Distance) → Known d → starts d k ≡ false → ageOf (sentOf p k) d ≡ min cap (suc (ageOf p d))
 older-sent p k d h f = rw (sent-age p k d h, f)
@@ -181,7 +178,7 @@ rested ok p k f h = let e = cycle-sent p k f in omega (arith, ok .rfc-most)
 
 -- The stages of an access.
 
-bank-four : {c : Config} → Accepted c → {x : Cell} → Holds (c .geometry) x → x .bank .0 < 4
+pub bank-four : {c : Config} → Accepted c → {x : Cell} → Holds (c .geometry) x → x .bank .0 < 4
 bank-four ok h = omega (arith, h .bank, pow-mono (ok .shaped .banks-most))
 
 module _ (c : Config) (p : Past) (r : Request) where
@@ -212,15 +209,6 @@ act-row : (p : Past) (b : Bank) (r : Row) → b .0 < 4 → rowAt (sentOf p (Act 
 unfolding marksOf rowOf
 act-row p b r h = sent-row p (Act b r) (b .0) h ∙ rw (eq-eqb (b .0) (b .0) refl)
 
--- all banks through a DEAC and a NOP
-deac-closed : (p : Past) → allClosed (rowAt (sentOf p Deac)) ≡ true
-unfolding allClosed marksOf
-deac-closed p = rw (sent-row p Deac 0 (lit< tt), sent-row p Deac 1 (lit< tt), sent-row p Deac 2 (lit< tt), sent-row p Deac 3 (lit< tt))
-
-nop-closed : (p : Past) → allClosed (rowAt p) ≡ true → allClosed (rowAt (sentOf p Nop)) ≡ true
-unfolding allClosed
-nop-closed p h = rw (nop-row p 0 (lit< tt), nop-row p 1 (lit< tt), nop-row p 2 (lit< tt), nop-row p 3 (lit< tt)) h
-
 module _ {c : Config} (ok : Accepted c) (p : Past) (programmed : p .programmed ≡ true) (mode : 2 ≤ ageOf p modeRegister) (q : Queue) (n : Counters) where
   -- a slot that carries k, no MRS nor REFR, and serves nothing
   quiet-advances : {a : Action} (k : Command) (next : Action) → starts modeRegister k ≡ false → isRefr k ≡ false
@@ -229,7 +217,7 @@ module _ {c : Config} (ok : Accepted c) (p : Past) (programmed : p .programmed �
   unfolding quietly queueAfter countersAfter
   quiet-advances k next f g settled left due owing =
       record {
-        programmed = programmed-sent p k f programmed;
+        programmed = programmed-kept p k programmed;
         mode = mode-sent p k f mode;
         settled = settled;
         left = left;
@@ -280,7 +268,7 @@ module _ {c : Config} (ok : Accepted c) (p : Past) (programmed : p .programmed �
   unfolding marksOf queueAfter countersAfter
   refreshed-advances next settled left due owing =
       record {
-        programmed = programmed-sent p Refr refl programmed;
+        programmed = programmed-kept p Refr programmed;
         mode = mode-sent p Refr refl mode;
         settled = settled;
         left = omega arith;
@@ -305,7 +293,7 @@ module _ {c : Config} (ok : Accepted c) (p : Past) (programmed : p .programmed �
       (λ e.
       let w : 1 ≤ short c p anyPrecharge = waits (short c p anyPrecharge) (refr-ready c p (record { cycle = h; mode = mode }) closed) e in
       let f = short-falls ok p Nop anyPrecharge tt refl in
-      quiet-advances Nop Refresh refl refl (rested ok p Nop refl h, nop-closed p closed) (omega arith) (omega arith) (λ o. o))
+      quiet-advances Nop Refresh refl refl (rested ok p Nop refl h, nop-closed p ∙ closed) (omega arith) (omega arith) (λ o. o))
 
   -- a read whose halfword is to come
   latency-advances : (i left bus : ℕ) → c .rfc ≤ ageOf p refreshCycle → 1 ≤ left → left ≤ c .latency
@@ -317,7 +305,7 @@ module _ {c : Config} (ok : Accepted c) (p : Past) (programmed : p .programmed �
       performed-both c p (Advanced c p q (CasLatency i left) n) (takenPlan (getOf q i) bus)
       (λ legal.
       record {
-        programmed = programmed-sent p Nop refl programmed;
+        programmed = programmed-kept p Nop programmed;
         mode = mode-sent p Nop refl mode;
         settled = rested ok p Nop refl h;
         left = omega arith;
@@ -444,7 +432,7 @@ module _ {c : Config} (ok : Accepted c) (p : Past) (programmed : p .programmed �
           performed-both c p (Advanced c p q (Access i) n) (writePlan i r)
           (λ l.
           record {
-            programmed = programmed-sent p k refl programmed;
+            programmed = programmed-kept p k programmed;
             mode = mode-sent p k refl mode;
             settled = rested ok p k refl h;
             left = omega arith;

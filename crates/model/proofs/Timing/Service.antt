@@ -52,12 +52,14 @@ use Rattle.plan.specs.declared.Control.{Control}
 use Rattle.plan.specs.Actions.{isIdle, underWay}
 use Rattle.plan.specs.Plan.{quietly, rest, planOf, queueAfter, countersAfter}
 use Rattle.plan.specs.Choice.{Choice, accessOr, needs, idleRefresh, rulesOf, choiceOf, currentOf}
+use Rattle.soundness.proofs.Past.{programmed-kept}
+use Rattle.soundness.proofs.Slot.{found-both}
 use Rattle.soundness.proofs.Plans.{Served, performedOf, servedOf, rest-only}
 use Rattle.model.specs.Sdram.{Sdram}
 use Rattle.model.specs.Flat.{Flat}
 use Rattle.model.specs.Condition.{isRefr}
 use Rattle.model.proofs.Invariant.{Good, Doing, leftOf, needOf, Settled, Owing, Timely}
-use Rattle.model.proofs.Timing.Actions.{Placed, queueLeft, Backlog, stays, falls, Advanced, programmed-sent, mode-sent, rested, act-advances, refresh-bound, access-bound}
+use Rattle.model.proofs.Timing.Actions.{Placed, queueLeft, Backlog, stays, falls, Advanced, mode-sent, rested, act-advances, refresh-bound, access-bound}
 
 -- the request of an access is queued
 abbrev pub Queued : Queue → Action → Type 0
@@ -175,7 +177,7 @@ module _ {c : Config} (ok : Accepted c) {p : Past} {q : Queue} {n : Counters} wh
       rest-only c p (Ends c n q Idle) Idle
       (record {
         timely = record {
-          programmed = programmed-sent p Nop refl (r .programmed);
+          programmed = programmed-kept p Nop (r .programmed);
           mode = mode-sent p Nop refl (r .mode);
           settled = rested ok p Nop refl (r .settled);
           owing = tt;
@@ -277,10 +279,6 @@ idle-owed May b closed w e = omega arith
 idle-owed Release b closed w e = omega arith
 idle-owed Need b closed w e = absurd (false≢true e)
 idle-owed Must b closed w e = absurd (false≢true e)
-
-found-both : (P : Action → Type 0) (f : Found) {later : Action} → ((i : ℕ) → f ≡ At i → P (Access i)) → P later → P (accessOr f later)
-found-both P (At i) here later = here i refl
-found-both P Nothing here later = later
 
 module _ {c : Config} (ok : Accepted c) {p : Past} (aged : Aged p) {q : Queue} (tidy : Tidy q) (all : AllPlaced c q) {m : Counters} (t : Timely c p q Idle m) where
   -- the counters of the slot
