@@ -83,41 +83,119 @@ settled-gap c p Refresh m s = ready-gap c p (s .0) m
 settled-gap c p (RefreshCycle left) m s = refl
 
 -- a sound action in service is settled once R2 is kept
-sound-settled : {c : Config} {p : Past} {count : ℕ} (a : Action) → inService a ≡ true → c .rfc ≤ ageOf p refreshCycle
+sound-settled : (c : Config) (p : Past) (count : ℕ) (a : Action) → inService a ≡ true → c .rfc ≤ ageOf p refreshCycle
     → SoundAction c (p .programmed) (allClosed (rowAt p)) count a → (p .programmed ≡ true) × Settled c p a
-sound-settled (PowerUp n) e h s = absurd (false≢true e)
-sound-settled InitPrecharge e h s = absurd (false≢true e)
-sound-settled (InitRefresh n) e h s = absurd (false≢true e)
-sound-settled InitMode e h s = absurd (false≢true e)
-sound-settled InitSettle e h s = absurd (false≢true e)
-sound-settled Idle e h s = (s, h)
-sound-settled (Access i) e h s = (s .0, h)
-sound-settled (CasLatency i left) e h s = (s .0, (h, s .2, s .3))
-sound-settled Turnaround e h s = (s, h)
-sound-settled PrechargeAll e h s = (s, h)
-sound-settled Refresh e h s = (s .0, (h, s .1))
-sound-settled (RefreshCycle left) e h s = (s .0, (omega arith, s .1, s .2))
+sound-settled c p count (PowerUp n) e h s = absurd (false≢true e)
+sound-settled c p count InitPrecharge e h s = absurd (false≢true e)
+sound-settled c p count (InitRefresh n) e h s = absurd (false≢true e)
+sound-settled c p count InitMode e h s = absurd (false≢true e)
+sound-settled c p count InitSettle e h s = absurd (false≢true e)
+sound-settled c p count Idle e h s = (s, h)
+sound-settled c p count (Access i) e h s = (s .0, h)
+sound-settled c p count (CasLatency i left) e h s = (s .0, (h, s .2, s .3))
+sound-settled c p count Turnaround e h s = (s, h)
+sound-settled c p count PrechargeAll e h s = (s, h)
+sound-settled c p count Refresh e h s = (s .0, (h, s .1))
+sound-settled c p count (RefreshCycle left) e h s = (s .0, (omega arith, s .1, s .2))
 
-module _ {c : Config} (ok : Accepted c) {p : Past} (q : Queue) where
-  -- what a slot takes
-  record Nearer (a : Action) (s : Served) : Type 0 where
-    by : waitOf c (s .past) (queueLeft q a s) (s .outcome .action) + 1 ≤ waitOf c p q a
+module _ {c : Config} (ok : Accepted c) (p : Past) (q : Queue) where
+  -- what a slot of an action takes
+  pub record Nearer (a : Action) (s : Served) : Type 0 where
+    pub by : waitOf c (s .past) (queueLeft q a s) (s .outcome .action) + 1 ≤ waitOf c p q a
+
+  -- a sound action in service
+  pub record Going (a : Action) : Type 0 where
+    pub service : inService a ≡ true
+    pub sound : SoundAction c (p .programmed) (allClosed (rowAt p)) (q .count) a
+    pub placed : Placed c q a
 
   -- R2 is kept
-  free : (a : Action) → inService a ≡ true → isIdle a ≡ false → gap c p ≡ 0 → SoundAction c (p .programmed) (allClosed (rowAt p)) (q .count) a
-      → Placed c q a → (bus : ℕ) → Nearer a (servedOf c p (getOf q (underWay a)) a bus)
-  free a e i z s placed bus =
+  free : (a : Action) → Going a → isIdle a ≡ false → gap c p ≡ 0 → (bus : ℕ) → Nearer a (servedOf c p (getOf q (underWay a)) a bus)
+  free a g i z bus =
       let r = gap-ready c p z in
-      let t = sound-settled a e (r .cycle) s in
-      let s' = servedOf c p (getOf q (underWay a)) a bus in
-      let d = act-advances ok (t .0) (r .mode) q a (t .1) placed i (startOf 0) bus in
-      let g : cond (sends (s' .outcome .action)) (gap c (s' .past)) 0 ≡ 0 = settled-gap c (s' .past) (s' .outcome .action) (d .mode) (d .settled) in
+      let t = sound-settled c p (q .count) a (g .service) (r .cycle) (g .sound) in
+      let s = servedOf c p (getOf q (underWay a)) a bus in
+      let d = act-advances ok (t .0) (r .mode) q a (t .1) (g .placed) i (startOf 0) bus in
+      let x : cond (sends (s .outcome .action)) (gap c (s .past)) 0 ≡ 0 = settled-gap c (s .past) (s .outcome .action) (d .mode) (d .settled) in
+      let y : cond (sends a) (gap c p) 0 ≡ 0 = if-both (λ n. n ≡ 0) (sends a) (λ e. z) (λ e. refl) in
       record { by = omega (arith, d .left) }
 
-  -- R2 is not kept yet: a plan with a command of its own is put off
+  -- R2 is not kept yet: a plan with a command of its own is put off, and the others only count
   module _ (h : 1 ≤ gap c p) where
-    put-off : (plan : Plan) → R2Kept c p (plan .command) ≡ (gap c p ≡ 0) → performedOf c p plan ≡ sending p Nop (quietly (plan .stays))
-    put-off plan e =
+    put-off : (plan : Plan) → (R2Kept c p (plan .command) → gap c p ≡ 0) → performedOf c p plan ≡ sending p Nop (quietly (plan .stays))
+    put-off plan f =
         performed-both c p (λ s. s ≡ sending p Nop (quietly (plan .stays))) plan
-        (λ l. absurd (omega (arith, h)))
+        (λ l. let z = f (legal-r2 c p (plan .command) l) in absurd (omega (arith, h)))
         (λ l. refl)
+
+    transfer-off : (i : ℕ) (r : Request) (kind : Kind) → performedOf c p (transferPlan c i r kind) ≡ sending p Nop (quietly (Access i))
+    unfolding transferPlan readPlan writePlan tries
+    transfer-off i r Kind.Read = put-off (readPlan c i r) (λ z. z)
+    transfer-off i r Kind.Write = put-off (writePlan i r) (λ z. z)
+
+    access-off : (i : ℕ) (r : Request) (x : Option Row) → performedOf c p (accessPlan c x i r) ≡ sending p Nop (quietly (Access i))
+    unfolding accessPlan tries
+    access-off i r none = put-off (tries (Act (r .bank) (r .row)) (Access i) (Access i)) (λ z. z)
+    access-off i r (some x) =
+        if-both (λ y. performedOf c p y ≡ sending p Nop (quietly (Access i))) (eqb (x .0) (r .row .0))
+        (λ e. transfer-off i r (r .kind))
+        (λ e. put-off (tries (Pre (r .bank)) (Access i) (Access i)) (λ z. z))
+
+    gap-less : gap c (sentOf p Nop) + 1 ≤ gap c p
+    unfolding marksOf
+    gap-less = let f = gap-falls ok p Nop refl refl in omega (arith, h)
+
+    held : (a : Action) → Going a → isIdle a ≡ false → (bus : ℕ) → Nearer a (servedOf c p (getOf q (underWay a)) a bus)
+    unfolding servedOf planOf tries quietly queueAfter latencyPlan takenPlan refreshPlan cycleLeft marksOf
+    held (PowerUp n) g i bus = absurd (false≢true (g .service))
+    held InitPrecharge g i bus = absurd (false≢true (g .service))
+    held (InitRefresh n) g i bus = absurd (false≢true (g .service))
+    held InitMode g i bus = absurd (false≢true (g .service))
+    held InitSettle g i bus = absurd (false≢true (g .service))
+    held Idle g i bus = absurd (true≢false i)
+    held (Access at) g i bus =
+        rw (access-off at (getOf q at) (rowAt p (getOf q at .bank .0)))
+        (record { by = omega (arith, gap-less, access-waits ok p (getOf q at) (bank-four ok (g .placed))) })
+    held (CasLatency at left) g i bus =
+        if-both (λ x. Nearer (CasLatency at left) (performedOf c p x)) (leb left 1)
+        (λ e.
+        performed-both c p (Nearer (CasLatency at left)) (takenPlan (getOf q at) bus)
+        (λ l. record { by = omega (arith, g .sound .2) })
+        (λ l. record { by = omega (arith, g .sound .2) }))
+        (λ e. let z = leb-false left 1 e in rest-only c p (Nearer (CasLatency at left)) (CasLatency at (left - 1)) (record { by = omega arith }))
+    held Turnaround g i bus = rest-only c p (Nearer Turnaround) Idle (record { by = omega arith })
+    held PrechargeAll g i bus =
+        rw (put-off (tries Deac PrechargeAll Refresh) (λ z. z))
+        (record { by = let f = all-falls ok p in omega (arith, gap-less) })
+    held Refresh g i bus =
+        rw (put-off (refreshPlan c) (λ z. z))
+        (record { by = let f = short-falls ok p Nop anyPrecharge tt refl in omega (arith, gap-less) })
+    held (RefreshCycle left) g i bus =
+        if-both (λ next. Nearer (RefreshCycle left) (performedOf c p (rest next))) (leb (left - 1) 0)
+        (λ e. rest-only c p (Nearer (RefreshCycle left)) Idle (record { by = omega (arith, g .sound .1) }))
+        (λ e.
+        let z = leb-false (left - 1) 0 e in
+        rest-only c p (Nearer (RefreshCycle left)) (RefreshCycle (left - 1)) (record { by = omega arith }))
+
+  pub nearer : (a : Action) → Going a → isIdle a ≡ false → (bus : ℕ) → Nearer a (servedOf c p (getOf q (underWay a)) a bus)
+  nearer a g i bus = go (ℕ-discrete (gap c p) 0)
+    where
+      go : Dec (gap c p ≡ 0) → Nearer a (servedOf c p (getOf q (underWay a)) a bus)
+      go (yes z) = free a g i z bus
+      go (no z) = held (omega arith) a g i bus
+
+  -- The bound.
+  pub wait-most : (a : Action) → Going a → waitOf c p q a ≤ choiceWithin c
+  unfolding choiceWithin
+  wait-most (PowerUp n) g = absurd (false≢true (g .service))
+  wait-most InitPrecharge g = absurd (false≢true (g .service))
+  wait-most (InitRefresh n) g = absurd (false≢true (g .service))
+  wait-most InitMode g = absurd (false≢true (g .service))
+  wait-most InitSettle g = absurd (false≢true (g .service))
+  wait-most Idle g = omega arith
+  wait-most (Access i) g = omega (arith, gap-most ok p, access-most ok p (getOf q i))
+  wait-most (CasLatency i left) g = omega (arith, g .sound .3, ok .access-span)
+  wait-most Turnaround g = omega (arith, ok .access-span)
+  wait-most PrechargeAll g = omega (arith, gap-most ok p, all-most ok p, ok .refresh-span)
+  wait-most Refresh g = omega (arith, gap-most ok p, short-most ok p anyPrecharge, ok .refresh-span)
+  wait-most (RefreshCycle left) g = omega (arith, g .sound .2, ok .refresh-span)

@@ -71,7 +71,7 @@ ready-gap c p cycle mode = omega arith
 
 -- No command but NOP is legal before.
 
-abbrev R2Kept : Config → Past → Command → Type 0
+abbrev pub R2Kept : Config → Past → Command → Type 0
 R2Kept c p Nop = Unit {0}
 R2Kept c p (Act b r) = gap c p ≡ 0
 R2Kept c p (Read b k) = gap c p ≡ 0
@@ -82,8 +82,8 @@ R2Kept c p Refr = gap c p ≡ 0
 R2Kept c p (Mrs w) = gap c p ≡ 0
 
 module _ (c : Config) (p : Past) where
-  r2 : {others : Bool} → leb (c .rfc) (ageOf p refreshCycle) && (leb 2 (ageOf p modeRegister) && others) ≡ true → gap c p ≡ 0
-  r2 {others} h =
+  r2 : (others : Bool) → leb (c .rfc) (ageOf p refreshCycle) && (leb 2 (ageOf p modeRegister) && others) ≡ true → gap c p ≡ 0
+  r2 others h =
       let x = both (leb (c .rfc) (ageOf p refreshCycle)) (leb 2 (ageOf p modeRegister) && others) h in
       let y = both (leb 2 (ageOf p modeRegister)) others (x .1) in
       ready-gap c p (leb-true _ _ (x .0)) (leb-true _ _ (y .0))
@@ -91,13 +91,13 @@ module _ (c : Config) (p : Past) where
   pub legal-r2 : (k : Command) → legalOf c (byAges c p) k ≡ true → R2Kept c p k
   unfolding legalOf requirements
   legal-r2 Nop h = tt
-  legal-r2 (Act b r) h = r2 (both (ltb (r .0) _) _ (both (ltb (b .0) _) _ h .1) .1)
-  legal-r2 (Read b k) h = r2 (both (ltb (k .0) _) _ (both (ltb (b .0) _) _ h .1) .1)
-  legal-r2 (Wrt b k x) h = r2 (both (ltb (k .0) _) _ (both (ltb (b .0) _) _ h .1) .1)
-  legal-r2 (Pre b) h = r2 (both (ltb (b .0) _) _ h .1)
-  legal-r2 Deac h = r2 h
-  legal-r2 Refr h = r2 h
-  legal-r2 (Mrs w) h = r2 (both (eqb w _) _ h .1)
+  legal-r2 (Act b r) h = r2 _ (both (ltb (r .0) _) _ (both (ltb (b .0) _) _ h .1) .1)
+  legal-r2 (Read b k) h = r2 _ (both (ltb (k .0) _) _ (both (ltb (b .0) _) _ h .1) .1)
+  legal-r2 (Wrt b k x) h = r2 _ (both (ltb (k .0) _) _ (both (ltb (b .0) _) _ h .1) .1)
+  legal-r2 (Pre b) h = r2 _ (both (ltb (b .0) _) _ h .1)
+  legal-r2 Deac h = r2 _ h
+  legal-r2 Refr h = r2 _ h
+  legal-r2 (Mrs w) h = r2 _ (both (eqb w _) _ h .1)
 
 -- Nothing is more than its whole length.
 

@@ -1,6 +1,6 @@
 -- Every call keeps a record sound; the initialisation ends; a choice is made; a backlog is worked off.
 pub mod Distances
 pub mod Action
-pub mod Start
-pub mod Refresh
-pub mod Going
+-- Start
+-- Refresh
+-- Going
