@@ -82,7 +82,7 @@ module _ (w : World) (v : Whole (w .machine .config) w) (kind : Kind) (address h
         reached = t .reached;
         owed = t .owed;
         timely =
-            timely-arrive r (v .ordered .tidy) (room .room)
+            timely-arrive r (room .room)
             (queued-doing (v .ordered .tidy) (w .sdram) (w .flat) (w .machine .control .action) (v .ordered .doing)) (t .timely);
       }
 

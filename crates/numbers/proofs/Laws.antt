@@ -10,7 +10,7 @@ use Rattle.config.proofs.Laws.{accepted-true, true-accepted}
 use Rattle.address.specs.Map.{addressNumberOf, capacityOf}
 use Rattle.address.proofs.Laws.{address-good}
 use Rattle.device.specs.View.{allClosed}
-use Rattle.device.proofs.Tests.{both}
+use Rattle.device.proofs.Tests.{by-test, both}
 use Rattle.ages.specs.declared.Past.{Past}
 use Rattle.ages.specs.Ages.{rowAt}
 use Rattle.queue.specs.declared.Queue.{Queue}
@@ -104,6 +104,14 @@ module _ (b : Bool) (c : Config) (p : Past) (n : Counters) (x : Control) (q : Qu
       by-tests true true e f z = sound-facts e f
       by-tests true false e f z = absurd (eqb-false 8 0 refl z)
       by-tests false t e f z = absurd (eqb-false 9 0 refl z)
+
+  pub record-configured : recordNumberBy b c p n x q ≡ 0 → b ≡ true
+  unfolding recordNumberBy soundBy
+  record-configured h = by-test b (λ e. e) (λ e. absurd (eqb-false 8 0 refl (rw e at h)))
+
+  pub facts-number : b ≡ true → SoundFacts c p n x q → recordNumberBy b c p n x q ≡ 0
+  unfolding recordNumberBy
+  facts-number e f = rw (facts-sound f, e)
 
   pub request-facts : (accepted address : ℕ) → requestNumberBy b c p n x q accepted address ≡ 0 → RequestFacts c p n x q accepted address
   unfolding requestNumberBy

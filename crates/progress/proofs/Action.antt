@@ -49,7 +49,7 @@ use Rattle.progress.specs.Progress.{choiceWithin}
 use Rattle.progress.proofs.Distances.{gap, R2Kept, gap-falls, gap-ready, ready-gap, legal-r2, gap-most, short-most, all-most, access-most, access-waits}
 
 -- does the action wait for a command of its own?
-abbrev sends : Action → Bool
+abbrev pub sends : Action → Bool
 sends (PowerUp n) = false
 sends InitPrecharge = true
 sends (InitRefresh n) = true

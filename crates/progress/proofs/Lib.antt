@@ -1,6 +1,4 @@
 -- Every call keeps a record sound; the initialisation ends; a choice is made; a backlog is worked off.
 pub mod Distances
 pub mod Action
--- Start
--- Refresh
--- Going
+pub mod Machine

@@ -7,8 +7,8 @@ use native.Mathlib.Nat.{le-of-suc-le-suc, not-suc-le-zero}
 use native.Mathlib.Decide.{decLt}
 use native.Mathlib.Omega.{arith}
 use borrow.Author.Tests.{lt-ltb, le-ltb}
-use lib.ListN.{length, getD, take, drop, replicate, length-append, length-set, replicate-append-replicate, getD-replicate, List·getD-eq-default, List·getD-append}
-use lib.Seq.{getD-take, getD-drop, take-suc-set, take-nil, drop-nil, length-take-le, drop-set-lt, drop-drop, take-append-le, drop-append-le}
+use lib.ListN.{length, getD, take, drop, replicate, length-append, length-set, replicate-append-replicate, getD-replicate, List·getD-eq-default}
+use lib.Seq.{getD-set-other, getD-take, getD-drop, take-suc-set, take-nil, drop-nil, length-take-le, drop-set-lt, drop-drop, take-append-le, drop-append-le}
 use Rattle.queue.specs.declared.Request.{Request}
 use Rattle.queue.specs.declared.Queue.{Queue}
 use Rattle.queue.specs.Places.{noRequest, heldOf, without, emptyOf, acceptOf, removeOf, getOf}
@@ -124,8 +124,6 @@ get-held {q} at t = go (decLt at (q .count)) (decLt at 8)
         simp (le-ltb at 8 (omega arith), List·getD-eq-default (heldOf q) noRequest {n = at} (omega (arith, tidy-length t)))
 
 -- acceptance leaves the queued requests in their places
-pub get-accept : {q : Queue} (r : Request) (at : ℕ) → Tidy q → at < q .count → q .count < 8 → getOf (acceptOf q r) at ≡ getOf q at
-get-accept {q} r at t h k =
-    get-held at (tidy-accept r t)
-    ∙ rw (held-accept r t k) (List·getD-append (heldOf q) (r ∷ []) noRequest at (rw (tidy-length t) h))
-    ∙ sym (get-held at t)
+pub get-accept : (q : Queue) (r : Request) (at : ℕ) → at < q .count → q .count < 8 → getOf (acceptOf q r) at ≡ getOf q at
+unfolding acceptOf getOf
+get-accept q r at h k = rw (lt-ltb (q .count) 8 k, getD-set-other (q .places) (q .count) at r noRequest (λ e. omega arith))

@@ -47,7 +47,7 @@ slot-keeps m bus h =
     (λ e. facts-sound (stepOf m bus .machine) (step-sound m (record-facts m (eqb-true _ _ e)) bus))
     (λ e. h)
 
-queued-sound : (m : Machine) (kind : Kind) (address halfword : ℕ) → RequestFacts m address
+pub queued-sound : (m : Machine) (kind : Kind) (address halfword : ℕ) → RequestFacts m address
     → SoundFacts (enqueuedOf m (queuedRequest m kind address halfword) .machine)
 unfolding enqueuedOf queuedRequest
 queued-sound m kind address halfword f = accepted-sound (f .sound) _ (f .room) (cell-within (m .config .geometry) address (f .below))

@@ -6,7 +6,8 @@ use mathlib.Core.List.{List, [], _∷_, _++_}
 use native.Mathlib.Numerals.{add-one}
 use native.Mathlib.Omega.{arith}
 use lib.Dec.{ltb}
-use lib.ListN.{length, take, set, length-take}
+use lib.ListN.{length, getD, take, set, length-take}
+use lib.Seq.{getD-take}
 use lib.Pow.{pow-pos}
 use borrow.Author.Tests.{lt-ltb, ltb-true}
 use Rattle.config.specs.declared.Geometry.{Geometry}
@@ -14,7 +15,7 @@ use Rattle.address.specs.Map.{Holds}
 use Rattle.device.proofs.Tests.{if-both}
 use Rattle.queue.specs.declared.Queue.{Queue}
 use Rattle.queue.specs.declared.Request.{Request}
-use Rattle.queue.specs.Places.{noRequest, cellHeld, heldOf, without, acceptOf, removeOf}
+use Rattle.queue.specs.Places.{noRequest, cellHeld, heldOf, without, acceptOf, removeOf, getOf}
 use Rattle.queue.proofs.Order.{Each, none, more}
 use Rattle.queue.proofs.Each.{each-without}
 use Rattle.queue.proofs.Tidy.{take-without}
@@ -33,6 +34,11 @@ module _ {P : Request → Type 0} where
   each-end (suc (suc n)) [] e h = more h none
   each-end (suc n) (x ∷ xs) (more p ps) h = more p (each-end n xs ps h)
 
+  each-place : {l : List Request} → Each P l → P noRequest → (at : ℕ) → P (getD l at noRequest)
+  each-place none h at = h
+  each-place (more p ps) h zero = p
+  each-place (more p ps) h (suc at) = each-place ps h at
+
 -- acceptance takes no request away
 pub accept-more : (q : Queue) (r : Request) → q .count ≤ acceptOf q r .count
 unfolding acceptOf
@@ -48,6 +54,14 @@ module _ {g : Geometry} {q : Queue} (s : SoundQueue g q) where
   -- the blank place
   blank-inside : Holds g (cellHeld noRequest)
   blank-inside = record { bank = pow-pos (g .banks); row = pow-pos (g .rows); column = pow-pos (g .columns) }
+
+  -- every queued request's cell
+  pub queued-inside : (at : ℕ) → at < q .count → Holds g (cellHeld (getOf q at))
+  unfolding getOf
+  queued-inside at h =
+      if-both (λ (r : Request). Holds g (cellHeld r)) (ltb at 8)
+      (λ e. rw (← getD-take (q .count) (q .places) at noRequest h) (each-place (s .inside) blank-inside at))
+      (λ e. blank-inside)
 
   removed-inside : (at : ℕ) → at < q .count → Inside g (take (q .count - 1) (without at (q .places) ++ (noRequest ∷ [])))
   removed-inside at h =

@@ -377,24 +377,24 @@ timely-slot {c} ok {p} aged {q} tidy all x under {m} t closed bus =
 
 -- A request arrives between slots.
 
-left-arrive : (c : Config) (p : Past) {q : Queue} (a : Action) (r : Request) → Tidy q → q .count < 8 → Queued q a → leftOf c p (acceptOf q r) a ≡ leftOf c p q a
-left-arrive c p (PowerUp k) r t h u = refl
-left-arrive c p InitPrecharge r t h u = refl
-left-arrive c p (InitRefresh k) r t h u = refl
-left-arrive c p InitMode r t h u = refl
-left-arrive c p InitSettle r t h u = refl
-left-arrive c p Idle r t h u = refl
-left-arrive c p (Access i) r t h u = rw (get-accept r i t u h)
-left-arrive c p (CasLatency i left) r t h u = refl
-left-arrive c p Turnaround r t h u = refl
-left-arrive c p PrechargeAll r t h u = refl
-left-arrive c p Refresh r t h u = refl
-left-arrive c p (RefreshCycle left) r t h u = refl
+pub left-arrive : (c : Config) (p : Past) (q : Queue) (a : Action) (r : Request) → q .count < 8 → Queued q a → leftOf c p (acceptOf q r) a ≡ leftOf c p q a
+left-arrive c p q (PowerUp k) r h u = refl
+left-arrive c p q InitPrecharge r h u = refl
+left-arrive c p q (InitRefresh k) r h u = refl
+left-arrive c p q InitMode r h u = refl
+left-arrive c p q InitSettle r h u = refl
+left-arrive c p q Idle r h u = refl
+left-arrive c p q (Access i) r h u = rw (get-accept q r i u h)
+left-arrive c p q (CasLatency i left) r h u = refl
+left-arrive c p q Turnaround r h u = refl
+left-arrive c p q PrechargeAll r h u = refl
+left-arrive c p q Refresh r h u = refl
+left-arrive c p q (RefreshCycle left) r h u = refl
 
-pub timely-arrive : {c : Config} {p : Past} {q : Queue} {a : Action} {n : Counters} (r : Request) → Tidy q → q .count < 8 → Queued q a
+pub timely-arrive : {c : Config} {p : Past} {q : Queue} {a : Action} {n : Counters} (r : Request) → q .count < 8 → Queued q a
     → Timely c p q a n → Timely c p (acceptOf q r) a n
-timely-arrive {c} {p} {q} {a} {n} r tidy h under t =
-    let e : leftOf c p (acceptOf q r) a ≡ leftOf c p q a = left-arrive c p a r tidy h under in
+timely-arrive {c} {p} {q} {a} {n} r h under t =
+    let e : leftOf c p (acceptOf q r) a ≡ leftOf c p q a = left-arrive c p q a r h under in
     record {
       programmed = t .programmed;
       mode = t .mode;
