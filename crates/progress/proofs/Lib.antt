@@ -2,3 +2,4 @@
 pub mod Distances
 pub mod Action
 pub mod Machine
+pub mod Start
