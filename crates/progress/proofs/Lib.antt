@@ -3,3 +3,4 @@ pub mod Distances
 pub mod Action
 pub mod Machine
 pub mod Start
+pub mod Refresh

@@ -92,23 +92,23 @@ module _ {c : Config} (ok : Accepted c) (p : Past) where
   Sound a = SoundAction c (p .programmed) (allClosed (rowAt p)) 0 a
 
   -- through a NOP, a DEAC and a REFR
-  gap-nop : gap c (sentOf p Nop) ≤ gap c p - 1
+  pub gap-nop : gap c (sentOf p Nop) ≤ gap c p - 1
   unfolding marksOf
   gap-nop = gap-falls ok p Nop refl refl .by
 
-  close-nop : short c (sentOf p Nop) anyPrecharge ≤ short c p anyPrecharge - 1
+  pub close-nop : short c (sentOf p Nop) anyPrecharge ≤ short c p anyPrecharge - 1
   unfolding marksOf
   close-nop = short-falls ok p Nop anyPrecharge tt refl .by
 
-  gap-deac : gap c (sentOf p Deac) ≤ gap c p - 1
+  pub gap-deac : gap c (sentOf p Deac) ≤ gap c p - 1
   unfolding marksOf
   gap-deac = gap-falls ok p Deac refl refl .by
 
-  close-deac : short c (sentOf p Deac) anyPrecharge ≡ c .rp - 1
+  pub close-deac : short c (sentOf p Deac) anyPrecharge ≡ c .rp - 1
   unfolding marksOf
   close-deac = short-new c p Deac anyPrecharge tt refl
 
-  gap-refr : gap c p ≡ 0 → gap c (sentOf p Refr) ≤ c .rfc - 1
+  pub gap-refr : gap c p ≡ 0 → gap c (sentOf p Refr) ≤ c .rfc - 1
   unfolding gap marksOf
   gap-refr z =
       let x : short c (sentOf p Refr) refreshCycle ≡ c .rfc - 1 = short-new c p Refr refreshCycle tt refl in
