@@ -4,3 +4,4 @@ pub mod Action
 pub mod Machine
 pub mod Start
 pub mod Refresh
+pub mod Going

@@ -134,7 +134,7 @@ asked {m} l kind address halfword =
 
 -- A slot of an action under way.
 
-goes-on : (m : Machine) → isIdle (m .control .action) ≡ false → chosenOf m ≡ record { control = m .control; queue = m .queue }
+pub goes-on : (m : Machine) → isIdle (m .control .action) ≡ false → chosenOf m ≡ record { control = m .control; queue = m .queue }
 unfolding chosenOf currentOf
 goes-on m e = rw e
 
