@@ -3,8 +3,9 @@ use Prim.Native.Nat.{ℕ, zero, suc, _+_, _-_, _*_, _≤_, _<_}
 use mathlib.Core.Path.{_≡_, refl, sym, ap, _∙_}
 use mathlib.Core.Bool.{Bool, true, false, _||_, true≢false, false≢true}
 use mathlib.Core.List.{List, [], _∷_}
+use mathlib.Core.Logic.{dite}
 use native.Mathlib.Omega.{arith}
-use native.Mathlib.Nat.{suc-mul, mul-le-mul-right}
+use native.Mathlib.Nat.{suc-mul, mul-le-mul-right, lt-of-not-le}
 use native.Mathlib.Decide.{ℕ-discrete, decLe}
 use lib.Dec.{eqb, leb}
 use lib.ListN.{length}
@@ -19,7 +20,7 @@ use Rattle.queue.specs.declared.Kind.{Kind}
 use Rattle.queue.specs.Places.{getOf}
 use Rattle.refresh.specs.declared.Counters.{Counters}
 use Rattle.refresh.specs.Counting.{tickOf, refreshedOf}
-use Rattle.refresh.proofs.Counts.{tick-stays, tick-expires, tick-full}
+use Rattle.refresh.proofs.Counts.{Bounded, tick-stays, tick-expires, tick-full}
 use Rattle.plan.specs.declared.Action.{Action}
 use Rattle.plan.specs.declared.Action.the-variants.{
   PowerUp,
@@ -62,7 +63,7 @@ use Rattle.progress.specs.Progress.{
 use Rattle.progress.proofs.Distances.{gap, gap-most, short-most, all-most}
 use Rattle.progress.proofs.Action.{wait-most}
 use Rattle.progress.proofs.Start.{startLeft, left-none, none-left, sooner, start-most}
-use Rattle.progress.proofs.Refresh.{owedLeft, Due, enough, all-closed, under, works, choice-works, chooses-refresh, empty-stays}
+use Rattle.progress.proofs.Refresh.{owedLeft, Due, enough, all-closed, under, Works, works, choice-works, chooses-refresh, empty-stays}
 use Rattle.progress.proofs.Machine.{Live, live, slot-is, step-live, going, waiting, Asked, asked, goes-on, step-nearer}
 
 pub kept-sound : KeptSound
@@ -157,3 +158,175 @@ started (write a x ∷ ks) m l h = starting-asked ks (started ks) m l h Kind.Wri
 started (slot bus ∷ ks) m l h =
     started ks (slotOf m bus .machine) (slot-live l bus) (omega (arith, slot-sooner l bus))
 started (backlog ∷ ks) m l h = started ks m l h
+
+-- A backlog is worked off.
+
+abbrev owing : Machine → ℕ
+owing m = owedLeft (m .config) (m .past) (m .control .action) (m .counters .backlog)
+
+-- in service, nothing queued, and the backlog is one that is refreshed
+record Resting (m : Machine) : Type 0 where
+  alive : Live m
+  service : inService (m .control .action) ≡ true
+  empty : m .queue .count ≡ 0
+  due : Due (m .past) (m .control .action) (m .counters .backlog)
+
+due-more : {p : Past} {a : Action} {b b' : ℕ} → b ≤ b' → Due p a b → Due p a b'
+due-more h (enough k) = enough (omega arith)
+due-more h (all-closed k) = all-closed k
+due-more h (under k) = under k
+
+-- the counters of a slot
+abbrev tickedIn : Machine → Counters
+tickedIn m = tickOf (m .counters) (m .config .rr)
+
+after-interval : (n : Counters) (refreshes : Bool) → countersAfter n refreshes .interval ≡ n .interval
+unfolding countersAfter refreshedOf
+after-interval n refreshes =
+    if-both (λ (x : Counters). x .interval ≡ n .interval) refreshes
+    (λ e. if-both (λ (x : Counters). x .interval ≡ n .interval) (eqb (n .backlog) 0) (λ f. refl) (λ f. refl))
+    (λ e. refl)
+
+-- what a slot leaves, with the bound of its action
+record Rested (m next : Machine) (bound : ℕ) : Type 0 where
+  still : Resting next
+  less : owing next + 1 ≤ bound
+  config : next .config ≡ m .config
+  interval : next .counters .interval ≡ tickedIn m .interval
+
+counters-in : (m : Machine) → inService (m .control .action) ≡ true → countersOf m ≡ tickedIn m
+unfolding countersOf tickedOf
+counters-in m s = rw s
+
+module _ {m : Machine} (q : Resting m) (a : Action) (must : Bool) (x : chosenOf m ≡ record { control = record { action = a; must = must }; queue = m .queue })
+    (serves : inService a ≡ true) (busy : isIdle a ≡ false) (sound : SoundAction (m .config) (m .past .programmed) (allClosed (rowAt (m .past))) 0 a)
+    (due : Due (m .past) a (tickedIn m .backlog)) (bus : ℕ) where
+  abbrev s : Served
+  s = servedOf (m .config) (m .past) (getOf (m .queue) (underWay a)) a bus
+
+  now : Works (q .alive .facts .accepted) (m .past) (tickedIn m) a s
+  now = works (q .alive .facts .accepted) (m .past) (tickedIn m) a serves busy sound (getOf (m .queue) (underWay a)) bus
+
+  step-empty : stepOf m bus .machine .queue .count ≡ 0
+  unfolding actedOf afterOf
+  step-empty = rw (step-is m bus, x) (empty-stays (m .queue) (underWay a) (s .outcome .leaves) (q .empty))
+
+  step-due : Due (stepOf m bus .machine .past) (stepOf m bus .machine .control .action) (stepOf m bus .machine .counters .backlog)
+  unfolding actedOf afterOf
+  step-due = rw (step-is m bus, x, counters-in m (q .service)) (now .due due)
+
+  step-less : owing (stepOf m bus .machine) + 1 ≤ owedLeft (m .config) (m .past) a (tickedIn m .backlog)
+  unfolding actedOf afterOf
+  step-less = rw (step-is m bus, x, counters-in m (q .service)) (now .by)
+
+  step-interval : stepOf m bus .machine .counters .interval ≡ tickedIn m .interval
+  unfolding actedOf afterOf
+  step-interval = rw (step-is m bus, x, counters-in m (q .service)) (after-interval (tickedIn m) (s .outcome .refreshes))
+
+  step-config : stepOf m bus .machine .config ≡ m .config
+  unfolding stepOf
+  step-config = refl
+
+  rested : Rested m (stepOf m bus .machine) (owedLeft (m .config) (m .past) a (tickedIn m .backlog))
+  rested =
+      record {
+        still = record { alive = step-live (q .alive) bus; service = step-serves m (q .alive .facts) bus (q .service); empty = step-empty; due = step-due };
+        less = step-less;
+        config = step-config;
+        interval = step-interval;
+      }
+
+-- the action of the slot: the one under way, or the refresh that is chosen
+
+idle-is : (a : Action) → isIdle a ≡ true → a ≡ Idle
+idle-is (PowerUp n) e = absurd (false≢true e)
+idle-is InitPrecharge e = absurd (false≢true e)
+idle-is (InitRefresh n) e = absurd (false≢true e)
+idle-is InitMode e = absurd (false≢true e)
+idle-is InitSettle e = absurd (false≢true e)
+idle-is Idle e = refl
+idle-is (Access i) e = absurd (false≢true e)
+idle-is (CasLatency i left) e = absurd (false≢true e)
+idle-is Turnaround e = absurd (false≢true e)
+idle-is PrechargeAll e = absurd (false≢true e)
+idle-is Refresh e = absurd (false≢true e)
+idle-is (RefreshCycle left) e = absurd (false≢true e)
+
+idle-closed : {p : Past} {b : ℕ} → Due p Idle b → b ≤ 3 → allClosed (rowAt p) ≡ true
+idle-closed (enough h) k = absurd (omega arith)
+idle-closed (all-closed h) k = h
+idle-closed (under h) k = absurd (false≢true h)
+
+-- The counters of the slot: the interval falls, or it is reloaded and one refresh more may be owed.
+
+data Ticks (n : Counters) (rr : ℕ) : Counters → Type 0 where
+  stays : {t : Counters} → 2 ≤ n .interval → t .interval ≡ n .interval - 1 → t .backlog ≡ n .backlog → Ticks n rr t
+  expires : {t : Counters} → n .interval ≤ 1 → t .interval ≡ rr → n .backlog ≤ t .backlog → t .backlog ≤ n .backlog + 1 → Ticks n rr t
+
+ticks : {rr : ℕ} {n : Counters} → Bounded rr n → Ticks n rr (tickOf n rr)
+ticks {rr} {n} b =
+    dite (decLe (n .interval) 1)
+    (λ h.
+    dite (decLe 15 (n .backlog))
+    (λ l. rw (tick-full n rr h l) (expires {t = record { interval = rr; backlog = 15 }} h refl (b .top) (omega arith)))
+    (λ l. rw (tick-expires n rr h (lt-of-not-le l)) (expires {t = record { interval = rr; backlog = n .backlog + 1 }} h refl (omega arith) (omega arith))))
+    (λ h. rw (tick-stays n rr (lt-of-not-le h)) (stays (lt-of-not-le h) refl refl))
+
+ticks-more : {rr : ℕ} {n t : Counters} → Ticks n rr t → n .backlog ≤ t .backlog
+ticks-more (stays h i e) = omega arith
+ticks-more (expires h i e f) = e
+
+-- what one refresh more adds to the bound
+one-more : (c : Config) (p : Past) (a : Action) (b b' : ℕ) → b' ≤ b + 1 → owedLeft c p a b' ≤ owedLeft c p a b + c .refresh
+one-more c p a b b' h =
+    by-action a (mul-le-mul-right (c .refresh) h) (suc-mul b (c .refresh)) (mul-le-mul-right (c .refresh) fewer) (suc-mul (b - 1) (c .refresh))
+  where
+    fewer : b' - 1 ≤ suc (b - 1)
+    fewer = omega arith
+
+    by-action : (a : Action) → b' * c .refresh ≤ (b + 1) * c .refresh → suc b * c .refresh ≡ b * c .refresh + c .refresh
+        → (b' - 1) * c .refresh ≤ suc (b - 1) * c .refresh → suc (b - 1) * c .refresh ≡ (b - 1) * c .refresh + c .refresh
+        → owedLeft c p a b' ≤ owedLeft c p a b + c .refresh
+    by-action (PowerUp n) u v w z = omega arith
+    by-action InitPrecharge u v w z = omega arith
+    by-action (InitRefresh n) u v w z = omega arith
+    by-action InitMode u v w z = omega arith
+    by-action InitSettle u v w z = omega arith
+    by-action Idle u v w z = omega arith
+    by-action (Access i) u v w z = omega arith
+    by-action (CasLatency i left) u v w z = omega arith
+    by-action Turnaround u v w z = omega arith
+    by-action PrechargeAll u v w z = omega arith
+    by-action Refresh u v w z = omega arith
+    by-action (RefreshCycle left) u v w z = omega arith
+
+-- A slot with a backlog.
+
+module _ {m : Machine} (q : Resting m) (some : 1 ≤ m .counters .backlog) (bus : ℕ) where
+  abbrev ok : Accepted (m .config)
+  ok = q .alive .facts .accepted
+
+  more : m .counters .backlog ≤ tickedIn m .backlog
+  more = ticks-more (ticks (q .alive .facts .counters))
+
+  rest-under : isIdle (m .control .action) ≡ false
+      → Rested m (stepOf m bus .machine) (owedLeft (m .config) (m .past) (m .control .action) (tickedIn m .backlog))
+  rest-under e =
+      rested q (m .control .action) (m .control .must) (goes-on m e) (q .service) e (rw (q .empty) at (q .alive .facts .action)) (due-more more (q .due)) bus
+
+  module _ (e : m .control .action ≡ Idle) where
+    closed-or : tickedIn m .backlog ≤ 3 → allClosed (rowAt (m .past)) ≡ true
+    closed-or h = idle-closed (due-more more (rw e at (q .due))) h
+
+    run : Bool
+    run = choiceOf (m .control .must) (tickedIn m .backlog) (m .queue) (allClosed (rowAt (m .past))) .control .must
+
+    chosen-refresh : chosenOf m ≡ record { control = record { action = PrechargeAll; must = run }; queue = m .queue }
+    unfolding chosenOf currentOf choiceOf run
+    chosen-refresh =
+        rw (counters-in m (q .service), e)
+        (ap (λ (a : Action). record { control = record { action = a; must = run }; queue = m .queue })
+        (chooses-refresh (m .control .must) (allClosed (rowAt (m .past))) (tickedIn m .backlog) (m .queue) (q .empty) (omega (arith, more)) closed-or))
+
+    rest-chosen : Rested m (stepOf m bus .machine) (owedLeft (m .config) (m .past) PrechargeAll (tickedIn m .backlog))
+    rest-chosen = rested q PrechargeAll run chosen-refresh refl refl (rw e at (q .alive .facts .action)) (under refl) bus
