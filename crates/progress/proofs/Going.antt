@@ -1,5 +1,5 @@
 -- What keeps a terminal going, proved: by recursion over the calls, each of which leaves a sound record and takes a slot from the bound.
-use Prim.Native.Nat.{ℕ, zero, suc, _+_, _-_, _*_, _≤_, _<_}
+use Prim.Native.Nat.{ℕ, zero, suc, _+_, _-_, _*_, _≤_, _<_, max}
 use mathlib.Core.Path.{_≡_, refl, sym, ap, _∙_}
 use mathlib.Core.Bool.{Bool, true, false, _||_, true≢false, false≢true}
 use mathlib.Core.List.{List, [], _∷_}
@@ -48,6 +48,7 @@ use Rattle.sequencer.specs.Machine.{stepOf}
 use Rattle.sequencer.specs.Calls.{recordNumberOf, requestOf, slotOf}
 use Rattle.sequencer.proofs.Sound.{step-serves, configure-keeps, request-keeps, slot-keeps}
 use Rattle.model.specs.World.{Call, read, write, slot, backlog}
+use Rattle.model.proofs.Invariant.{short, allHeld}
 use Rattle.model.proofs.Plans.{countersOf, chosenOf, actedOf, afterOf, step-is}
 use Rattle.progress.specs.Calls.{afterCall, afterCalls, slotsIn, chooses}
 use Rattle.progress.specs.Progress.{
@@ -330,3 +331,145 @@ module _ {m : Machine} (q : Resting m) (some : 1 ≤ m .counters .backlog) (bus 
 
     rest-chosen : Rested m (stepOf m bus .machine) (owedLeft (m .config) (m .past) PrechargeAll (tickedIn m .backlog))
     rest-chosen = rested q PrechargeAll run chosen-refresh refl refl (rw e at (q .alive .facts .action)) (under refl) bus
+
+  rest-slot : Rested m (slotOf m bus .machine) (owedLeft (m .config) (m .past) (m .control .action) (tickedIn m .backlog))
+  rest-slot =
+      rw (slot-is (q .alive) bus)
+      (by-test (isIdle (m .control .action))
+      (λ i.
+      let e = idle-is (m .control .action) i in
+      let r = rest-chosen e in
+      let w : owedLeft (m .config) (m .past) PrechargeAll (tickedIn m .backlog) ≤ owedLeft (m .config) (m .past) Idle (tickedIn m .backlog)
+      = choice-works ok (m .past) (tickedIn m) (omega (arith, more)) in
+      let same = ap (λ (a : Action). owedLeft (m .config) (m .past) a (tickedIn m .backlog)) e in
+      record { still = r .still; less = omega (arith, r .less, w, same); config = r .config; interval = r .interval })
+      rest-under)
+
+-- a bound of 0 leaves no backlog
+owing-some : {m : Machine} → Resting m → 1 ≤ m .counters .backlog → 1 ≤ owing m
+owing-some {m} q h =
+    let b = mul-le-mul-right (m .config .refresh) h in
+    let ok = q .alive .facts .accepted in
+    by-action (m .control .action) (q .service) (q .alive .facts .action) (omega (arith, b, ok .refresh-span, ok .rfc-least)) (ok .rfc-least)
+  where
+    by-action : (a : Action) → inService a ≡ true → SoundAction (m .config) (m .past .programmed) (allClosed (rowAt (m .past))) (m .queue .count) a
+        → 1 ≤ m .counters .backlog * m .config .refresh → 1 ≤ m .config .rfc → 1 ≤ owedLeft (m .config) (m .past) a (m .counters .backlog)
+    by-action (PowerUp n) e s x y = absurd (false≢true e)
+    by-action InitPrecharge e s x y = absurd (false≢true e)
+    by-action (InitRefresh n) e s x y = absurd (false≢true e)
+    by-action InitMode e s x y = absurd (false≢true e)
+    by-action InitSettle e s x y = absurd (false≢true e)
+    by-action Idle e s x y = omega arith
+    by-action (Access i) e s x y = absurd (omega (arith, s .1, q .empty))
+    by-action (CasLatency i left) e s x y = absurd (omega (arith, s .1, q .empty))
+    by-action Turnaround e s x y = omega arith
+    by-action PrechargeAll e s x y = omega arith
+    by-action Refresh e s x y = omega arith
+    by-action (RefreshCycle left) e s x y = omega arith
+
+-- over k intervals more
+module _ (c : Config) where
+  -- what is owed, with a refresh for each interval that may still expire, is done before the last of them has
+  record Soon (k : ℕ) (m : Machine) : Type 0 where
+    config : m .config ≡ c
+    before : owing m + k * c .refresh < m .counters .interval + k * c .rr
+
+  abbrev Working : List ℕ → Type 0
+  Working buses = (k : ℕ) (m : Machine) → Resting m → Soon k m → owing m + k * c .refresh ≤ length buses → worksOff m buses ≡ true
+
+  module _ {m next : Machine} (q : Resting m) (some : 1 ≤ m .counters .backlog) (same : m .config ≡ c)
+      (r : Rested m next (owedLeft (m .config) (m .past) (m .control .action) (tickedIn m .backlog))) where
+    refresh-same : m .config .refresh ≡ c .refresh
+    refresh-same = ap (λ (x : Config). x .refresh) same
+
+    rr-same : m .config .rr ≡ c .rr
+    rr-same = ap (λ (x : Config). x .rr) same
+
+    -- the slot's interval expires, or not
+    goes : (rest : List ℕ) → Working rest → (k : ℕ) → Soon k m → owing m + k * c .refresh ≤ suc (length rest) → Ticks (m .counters) (m .config .rr) (tickedIn m)
+        → worksOff next rest ≡ true
+    goes rest next-works k s h (stays i j b) =
+        let l : owing next + 1 ≤ owing m = rw b at (r .less) in
+        next-works k next (r .still) (record { config = r .config ∙ same; before = omega (arith, s .before, r .interval, l, i, j) }) (omega arith)
+    goes rest next-works zero s h (expires i j f g) = absurd (omega (arith, s .before, owing-some q some))
+    goes rest next-works (suc k) s h (expires i j f g) =
+        let l = one-more (m .config) (m .past) (m .control .action) (m .counters .backlog) (tickedIn m .backlog) g in
+        let x = suc-mul k (c .refresh) in
+        let y = suc-mul k (c .rr) in
+        next-works k next (r .still)
+        (record { config = r .config ∙ same; before = omega (arith, s .before, r .interval, r .less, l, x, y, i, j, refresh-same, rr-same) })
+        (omega (arith, r .less, l, x, refresh-same))
+
+  working : (buses : List ℕ) → Working buses
+  working [] k m q s h =
+      dite (ℕ-discrete (m .counters .backlog) 0)
+      (λ e. rw (eq-eqb (m .counters .backlog) 0 e))
+      (λ e. absurd (omega (arith, owing-some q (omega arith))))
+  working (bus ∷ rest) k m q s h =
+      dite (ℕ-discrete (m .counters .backlog) 0)
+      (λ e. rw (eq-eqb (m .counters .backlog) 0 e))
+      (λ e.
+      let some : 1 ≤ m .counters .backlog = omega arith in
+      rw (ne-eqb (m .counters .backlog) 0 e)
+      (goes q some (s .config) (rest-slot q some bus) rest (working rest) k s h (ticks (q .alive .facts .counters))))
+
+-- from any record
+resting-due : (m : Machine) → refreshedNext m ≡ true → Due (m .past) (m .control .action) (m .counters .backlog)
+resting-due m h =
+    by-test (leb 4 (m .counters .backlog))
+    (λ e. enough (leb-true 4 (m .counters .backlog) e))
+    (λ e.
+    by-test (allClosed (rowAt (m .past)))
+    (λ f. all-closed f)
+    (λ f. under (rw (e, f) at h)))
+
+owing-most : {m : Machine} → Resting m → owing m ≤ 16 * m .config .refresh
+owing-most {m} q =
+    let p = m .past in
+    let ok = q .alive .facts .accepted in
+    let top = q .alive .facts .counters .top in
+    let b = m .counters .backlog in
+    let fewer : b - 1 ≤ 14 = omega arith in
+    by-action (m .control .action) (q .service) (q .alive .facts .action)
+    (mul-le-mul-right (m .config .refresh) top) (mul-le-mul-right (m .config .refresh) fewer)
+    (gap-most ok p) (all-most ok p) (short-most ok p anyPrecharge) (ok .refresh-span) (ok .rfc-least)
+  where
+    by-action : (a : Action) → inService a ≡ true → SoundAction (m .config) (m .past .programmed) (allClosed (rowAt (m .past))) (m .queue .count) a
+        → m .counters .backlog * m .config .refresh ≤ 15 * m .config .refresh
+        → (m .counters .backlog - 1) * m .config .refresh ≤ 14 * m .config .refresh
+        → gap (m .config) (m .past) ≤ m .config .refresh → allHeld (m .config) (m .past) ≤ max (m .config .ras) (m .config .wr)
+        → short (m .config) (m .past) anyPrecharge ≤ m .config .rp
+        → m .config .refresh ≡ max (m .config .ras) (m .config .wr) + m .config .rp + m .config .rfc → 1 ≤ m .config .rfc
+        → owedLeft (m .config) (m .past) a (m .counters .backlog) ≤ 16 * m .config .refresh
+    by-action (PowerUp n) e s u v g h i f r = omega arith
+    by-action InitPrecharge e s u v g h i f r = omega arith
+    by-action (InitRefresh n) e s u v g h i f r = omega arith
+    by-action InitMode e s u v g h i f r = omega arith
+    by-action InitSettle e s u v g h i f r = omega arith
+    by-action Idle e s u v g h i f r = omega arith
+    by-action (Access k) e s u v g h i f r = omega arith
+    by-action (CasLatency k left) e s u v g h i f r = omega arith
+    by-action Turnaround e s u v g h i f r = omega arith
+    by-action PrechargeAll e s u v g h i f r = omega arith
+    by-action Refresh e s u v g h i f r = omega arith
+    by-action (RefreshCycle left) e s u v g h i f r = omega (arith, s .2)
+
+works-off : (m : Machine) → recordNumberOf m ≡ 0 → inService (m .control .action) ≡ true → m .queue .count ≡ 0 → refreshedNext m ≡ true → (buses : List ℕ)
+    → workedOffWithin (m .config) ≤ length buses → worksOff m buses ≡ true
+unfolding workedOffWithin
+works-off m z s e d buses h =
+    let q : Resting m = record { alive = live m z; service = s; empty = e; due = resting-due m d } in
+    let w = owing-most q in
+    let ok = q .alive .facts .accepted in
+    let i = q .alive .facts .counters .low in
+    working (m .config) buses 4 m q (record { config = refl; before = omega (arith, ok .long-enough, w, i) }) (omega (arith, w))
+
+pub progress : Progress
+progress =
+    record {
+      started = λ m z calls h. (let l = live m z in
+          started calls m l (omega (arith, h, start-most (l .facts .accepted) (m .past) (m .control .action) (m .queue .count) (l .facts .action))));
+      chosen = λ m z s calls h. (let l = live m z in
+          choosing calls m l s (omega (arith, h, wait-most (l .facts .accepted) (m .past) (m .queue) (m .control .action) (going l s))));
+      worked-off = works-off;
+    }

@@ -157,8 +157,8 @@ module _ {c : Config} (ok : Accepted c) (p : Past) (n : Counters) where
   works (RefreshCycle left) e i s r bus = cycle left (s .1)
 
   -- a choice
-  pub choice-works : 1 ≤ n .backlog → (r : Request) (bus : ℕ) → owedLeft c p PrechargeAll (n .backlog) ≤ owedLeft c p Idle (n .backlog)
-  choice-works h r bus =
+  pub choice-works : 1 ≤ n .backlog → owedLeft c p PrechargeAll (n .backlog) ≤ owedLeft c p Idle (n .backlog)
+  choice-works h =
       let e : n .backlog ≡ suc (n .backlog - 1) = omega arith in
       let f : n .backlog * c .refresh ≡ (n .backlog - 1) * c .refresh + c .refresh = ap (λ x. x * c .refresh) e ∙ suc-mul (n .backlog - 1) (c .refresh) in
       omega (arith, all-most ok p, ok .refresh-span)
