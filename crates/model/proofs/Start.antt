@@ -5,7 +5,7 @@ use mathlib.Core.Path.{_≡_, refl, sym, ap, _∙_}
 use mathlib.Core.List.{[], _∷_, _++_}
 use mathlib.Core.Logic.{_⊎_, inl, inr, ⊎-elim}
 use mathlib.Core.Bool.{true, false, _&&_, true≢false, false≢true}
-use lib.Dec.{leb, lit<}
+use lib.Dec.{leb}
 use borrow.Author.Tests.{leb-true, leb-false, le-leb, eq-eqb}
 use Rattle.config.specs.declared.Config.{Config}
 use Rattle.config.specs.Accepted.{Accepted}
@@ -17,7 +17,7 @@ use Rattle.device.proofs.Tests.{by-test, if-both, both}
 use Rattle.device.proofs.Alike.{Known, hold-append}
 use Rattle.ages.specs.declared.Past.{Past}
 use Rattle.ages.specs.Ages.{cap, freshOf, ageOf, openedOf, rowIn, rowAt, byAges, agedOf, agesAfter, sentOf}
-use Rattle.ages.proofs.Slot.{sent-age, sent-row}
+use Rattle.ages.proofs.Slot.{sent-age}
 use Rattle.queue.specs.declared.Request.{Request}
 use Rattle.plan.specs.declared.Action.{Action}
 use Rattle.plan.specs.declared.Action.the-variants.{
@@ -149,7 +149,6 @@ module _ (c : Config) (p : Past) (q : Closed p) where
       let x = both (leb (c .rfc) (ageOf p refreshCycle)) (leb 2 (ageOf p modeRegister) && others) h in
       let y = both (leb 2 (ageOf p modeRegister)) others (x .1) in
       (leb-true _ _ (x .0), rest-kept (y .1))
-
 
 quiet-nop : (p : Past) → Closed p → Closed (sentOf p Nop)
 quiet-nop p q = let e = nop-ages p .2 in record { closed = nop-closed p ∙ q .closed; unset = omega (arith, q .unset) }

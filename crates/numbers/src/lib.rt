@@ -14,7 +14,13 @@ const LAST: u32 = 4294967295;
 // Soundness, the test for number 9; docs/SOUNDNESS.md says it in words. It is made on parts of the machine, so that the machine is not copied for it.
 
 // All of it but the configuration and the queued cells: the counters, the number of requests, the action under way.
-pub fn state_sound(config: Config, past: Past, counters: Counters, control: Control, count: usize) -> bool
+pub fn state_sound(
+    config: Config,
+    past: Past,
+    counters: Counters,
+    control: Control,
+    count: usize,
+) -> bool
     ensures { λ r. ⌜ r ≡ stateSound config past counters (control .action) count ⌝ }
 {
     if !counters.sound(config.rr) {

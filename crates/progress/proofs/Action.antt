@@ -1,23 +1,20 @@
 -- An action under way ends: each slot takes one at least from a bound on the slots that it still takes, for every sound record.
-use Prim.Native.Nat.{ℕ, suc, _+_, _-_, _*_, _≤_, _<_}
-use mathlib.Core.Path.{_≡_, refl, sym, _∙_}
+use Prim.Native.Nat.{ℕ, _+_, _-_, _≤_}
+use mathlib.Core.Path.{_≡_, refl}
 use mathlib.Core.Bool.{Bool, true, false, cond, true≢false, false≢true}
 use mathlib.Core.Option.{Option, none, some}
 use native.Mathlib.Omega.{arith}
 use native.Mathlib.Decide.{ℕ-discrete}
 use lib.Dec.{leb, eqb}
-use lib.ListN.{length, getD}
-use borrow.Author.Tests.{leb-true, leb-false, lt-ltb}
+use borrow.Author.Tests.{leb-false}
 use Rattle.config.specs.declared.Config.{Config}
 use Rattle.config.specs.Accepted.{Accepted}
 use Rattle.address.specs.declared.Row.{Row}
-use Rattle.command.specs.declared.Command.{Command}
-use Rattle.command.specs.declared.Command.the-variants.{Nop, Act, Read, Wrt, Pre, Deac, Refr, Mrs}
+use Rattle.command.specs.declared.Command.the-variants.{Nop, Act, Read, Pre, Deac}
 use Rattle.device.specs.View.{modeRegister, refreshCycle, anyPrecharge, marksOf, allClosed}
-use Rattle.device.specs.Rules.{legalOf}
 use Rattle.device.proofs.Tests.{if-both}
 use Rattle.ages.specs.declared.Past.{Past}
-use Rattle.ages.specs.Ages.{ageOf, rowAt, byAges, sentOf}
+use Rattle.ages.specs.Ages.{ageOf, rowAt, sentOf}
 use Rattle.queue.specs.declared.Kind.{Kind}
 use Rattle.queue.specs.declared.Queue.{Queue}
 use Rattle.queue.specs.declared.Request.{Request}
@@ -42,9 +39,9 @@ use Rattle.plan.specs.Actions.{isIdle, inService, underWay}
 use Rattle.plan.specs.Plan.{Plan, quietly, tries, rest, transferPlan, readPlan, writePlan, accessPlan, latencyPlan, takenPlan, cycleLeft, refreshPlan, planOf, queueAfter}
 use Rattle.plan.proofs.Sound.{SoundAction}
 use Rattle.soundness.proofs.Plans.{Served, performedOf, servedOf, sending, performed-both, rest-only}
-use Rattle.model.proofs.Invariant.{short, allHeld, accessLeft, leftOf, Settled}
-use Rattle.model.proofs.Timing.Distances.{Falls, short-falls, all-falls}
-use Rattle.model.proofs.Timing.Actions.{Placed, queueLeft, Advanced, act-advances, bank-four}
+use Rattle.model.proofs.Invariant.{leftOf, Settled}
+use Rattle.model.proofs.Timing.Distances.{short-falls, all-falls}
+use Rattle.model.proofs.Timing.Actions.{Placed, queueLeft, act-advances, bank-four}
 use Rattle.progress.specs.Progress.{choiceWithin}
 use Rattle.progress.proofs.Distances.{gap, R2Kept, gap-falls, gap-ready, ready-gap, legal-r2, gap-most, short-most, all-most, access-most, access-waits}
 

@@ -1,7 +1,7 @@
 -- What is left of the distances in any record: a NOP takes one from each, none is more than its whole length, and no command but NOP is legal before R2
 -- is kept.
-use Prim.Native.Nat.{ℕ, _+_, _≤_, _<_, max}
-use mathlib.Core.Path.{_≡_, refl, sym, _∙_}
+use Prim.Native.Nat.{ℕ, _≤_, _<_, max}
+use mathlib.Core.Path.{_≡_, refl}
 use mathlib.Core.Bool.{Bool, true, false, cond, _&&_}
 use mathlib.Core.Option.{Option, none, some}
 use native.Mathlib.Omega.{arith}
@@ -160,9 +160,6 @@ module _ {c : Config} (ok : Accepted c) (p : Past) where
 
     abbrev p' : Past
     p' = sentOf p Nop
-
-    fall-short : (d : Distance) → Falls (short c p' d) (short c p d) → short c p' d ≤ short c p d
-    fall-short d f = omega arith
 
     transfer-waits : (kind : Kind) → transferLeft c p' kind b ≤ transferLeft c p kind b
     unfolding transferLeft marksOf

@@ -1,10 +1,9 @@
 -- Calls on a machine that is configured and sound: it stays so, a request leaves the action and its wait alone, and a slot of an action under way is that
 -- action's plan carried out.
-use Prim.Native.Nat.{ℕ, _+_, _≤_, _<_}
-use mathlib.Core.Path.{_≡_, refl, sym, ap, _∙_}
+use Prim.Native.Nat.{ℕ, _+_, _≤_}
+use mathlib.Core.Path.{_≡_, refl, ap}
 use mathlib.Core.Bool.{Bool, true, false, cond}
 use Rattle.config.specs.declared.Config.{Config}
-use Rattle.ages.specs.declared.Past.{Past}
 use Rattle.queue.specs.declared.Kind.{Kind}
 use Rattle.queue.specs.declared.Queue.{Queue}
 use Rattle.queue.proofs.Sound.{SoundQueue}
@@ -25,19 +24,17 @@ use Rattle.plan.specs.declared.Action.the-variants.{
   Refresh,
   RefreshCycle,
 }
-use Rattle.plan.specs.Actions.{isIdle, inService, underWay}
-use Rattle.plan.specs.Plan.{queueAfter}
-use Rattle.plan.specs.Choice.{Choice, currentOf}
+use Rattle.plan.specs.Actions.{isIdle, inService}
+use Rattle.plan.specs.Choice.{currentOf}
 use Rattle.plan.proofs.Sound.{SoundAction}
 use Rattle.numbers.proofs.Laws as numbers
-use Rattle.soundness.proofs.Plans.{Served, servedOf}
 use Rattle.soundness.proofs.Queue.{queued-inside}
 use Rattle.sequencer.specs.declared.Machine.{Machine}
 use Rattle.sequencer.specs.declared.Requested.{Requested}
 use Rattle.sequencer.specs.Machine.{stepOf}
-use Rattle.sequencer.specs.Calls.{recordNumberOf, requestNumberOf, queuedRequest, enqueuedOf, requestOf, slotOf}
+use Rattle.sequencer.specs.Calls.{recordNumberOf, queuedRequest, enqueuedOf, requestOf, slotOf}
 use Rattle.sequencer.proofs.Laws.{SoundFacts, request-facts}
-use Rattle.sequencer.proofs.Sound.{record-facts, step-sound, step-serves, queued-sound}
+use Rattle.sequencer.proofs.Sound.{record-facts, step-sound, queued-sound}
 use Rattle.model.proofs.Calls.{request-cases, slot-steps}
 use Rattle.model.proofs.Plans.{chosenOf, actedOf, afterOf, step-is}
 use Rattle.model.proofs.Timing.Actions.{Placed}

@@ -1,22 +1,21 @@
 -- With nothing queued a backlog is worked off: each slot takes one at least from a bound on the slots that the owed refreshes still take, and an interval
 -- that expires adds F. Over four intervals the bound wins, since RR is at least A + 6F.
-use Prim.Native.Nat.{ℕ, suc, _+_, _-_, _*_, _≤_, _<_, max}
+use Prim.Native.Nat.{ℕ, suc, _+_, _-_, _*_, _≤_, max}
 use mathlib.Core.Path.{_≡_, refl, sym, ap, _∙_}
 use mathlib.Core.Bool.{Bool, true, false, cond, true≢false, false≢true}
 use native.Mathlib.Omega.{arith}
-use native.Mathlib.Nat.{suc-mul, mul-le-mul-right}
+use native.Mathlib.Nat.{suc-mul}
 use native.Mathlib.Decide.{ℕ-discrete}
 use lib.Dec.{leb, ltb}
-use lib.ListN.{length, take}
-use borrow.Author.Tests.{leb-true, leb-false}
+use lib.ListN.{length}
+use borrow.Author.Tests.{leb-false}
 use Rattle.config.specs.declared.Config.{Config}
 use Rattle.config.specs.Accepted.{Accepted}
 use Rattle.command.specs.declared.Command.the-variants.{Nop, Deac, Refr}
-use Rattle.device.specs.View.{anyPrecharge, marksOf, allClosed}
+use Rattle.device.specs.View.{anyPrecharge, allClosed}
 use Rattle.device.proofs.Tests.{if-both}
 use Rattle.ages.specs.declared.Past.{Past}
 use Rattle.ages.specs.Ages.{rowAt, sentOf}
-use Rattle.queue.specs.declared.Kind.{Kind}
 use Rattle.queue.specs.declared.Queue.{Queue}
 use Rattle.queue.specs.declared.Request.{Request}
 use Rattle.queue.specs.Places.{heldOf, removeOf}
@@ -24,9 +23,9 @@ use Rattle.queue.specs.Oldest.{oldestOf}
 use Rattle.refresh.specs.declared.Counters.{Counters}
 use Rattle.refresh.specs.declared.Level.{Level}
 use Rattle.refresh.specs.declared.Level.the-variants.{Clear, May, Release, Need, Must}
-use Rattle.refresh.specs.Counting.{refreshedOf, tickOf}
+use Rattle.refresh.specs.Counting.{refreshedOf}
 use Rattle.refresh.specs.Urgency.{levelOf, runOf}
-use Rattle.refresh.proofs.Counts.{refreshed-falls, refreshed-none, tick-stays, tick-expires, tick-full}
+use Rattle.refresh.proofs.Counts.{refreshed-falls, refreshed-none}
 use Rattle.refresh.proofs.Levels.{Within, level-in}
 use Rattle.plan.specs.declared.Action.{Action}
 use Rattle.plan.specs.declared.Action.the-variants.{
@@ -54,7 +53,7 @@ use Rattle.model.proofs.Invariant.{short, allHeld}
 use Rattle.model.proofs.Timing.Distances.{all-falls, deac-ready, refr-ready}
 use Rattle.model.proofs.Timing.Actions.{waits}
 use Rattle.progress.specs.Progress.{refreshing}
-use Rattle.progress.proofs.Distances.{gap, gap-ready, legal-r2, gap-most, short-most, all-most}
+use Rattle.progress.proofs.Distances.{gap, gap-ready, legal-r2, all-most}
 use Rattle.progress.proofs.Start.{gap-nop, close-nop, gap-deac, close-deac, gap-refr}
 
 -- a bound on the slots until b refreshes that are owed have been made, each of F slots at most

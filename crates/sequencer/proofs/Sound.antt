@@ -1,8 +1,8 @@
 -- Every call on a sound record gives a sound record: the laws of `soundness`, on machines. What a blank machine or a refused call gives back is what
 -- was handed in.
 use Prim.Native.Nat.{ℕ}
-use mathlib.Core.Path.{_≡_, refl}
-use mathlib.Core.Bool.{Bool, true, false, cond}
+use mathlib.Core.Path.{_≡_}
+use mathlib.Core.Bool.{true}
 use native.Mathlib.Omega.{arith}
 use lib.Dec.{eqb}
 use borrow.Author.Tests.{eqb-true}

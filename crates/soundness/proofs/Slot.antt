@@ -1,19 +1,19 @@
 -- A slot on a sound record gives a sound record, whatever made the record: action by action. A machine in service stays in service.
-use Prim.Native.Nat.{ℕ, _-_, _*_, _≤_, _<_}
+use Prim.Native.Nat.{ℕ, _-_, _≤_, _<_}
 use mathlib.Core.Path.{_≡_, refl, _∙_}
-use mathlib.Core.Bool.{Bool, true, false, cond, false≢true}
+use mathlib.Core.Bool.{Bool, true, false, false≢true}
 use mathlib.Core.Option.{Option, none, some}
 use native.Mathlib.Omega.{arith}
 use lib.Dec.{leb, eqb}
 use lib.ListN.{length-take}
-use borrow.Author.Tests.{leb-true, leb-false}
+use borrow.Author.Tests.{leb-false}
 use Rattle.config.specs.declared.Config.{Config}
 use Rattle.config.specs.Accepted.{Accepted}
 use Rattle.address.specs.declared.Row.{Row}
 use Rattle.address.specs.Map.{Holds}
 use Rattle.command.specs.declared.Command.{Command}
 use Rattle.command.specs.declared.Command.the-variants.{Nop, Act, Pre, Deac, Refr, Mrs}
-use Rattle.device.specs.View.{marksOf, allClosed}
+use Rattle.device.specs.View.{allClosed}
 use Rattle.device.proofs.Tests.{if-both}
 use Rattle.ages.specs.declared.Past.{Past}
 use Rattle.ages.specs.Ages.{rowAt, byAges, sentOf}
@@ -27,7 +27,6 @@ use Rattle.queue.specs.Oldest.{oldestOf}
 use Rattle.queue.proofs.Oldest.{oldest-found}
 use Rattle.queue.proofs.Sound.{SoundQueue}
 use Rattle.refresh.specs.declared.Counters.{Counters}
-use Rattle.refresh.specs.Counting.{tickOf}
 use Rattle.refresh.specs.Urgency.{levelOf, runOf}
 use Rattle.refresh.proofs.Counts.{Bounded, bounded-tick, bounded-refreshed}
 use Rattle.plan.specs.declared.Action.{Action}

@@ -18,8 +18,7 @@ use Rattle.ages.proofs.Slot.{Aged}
 use Rattle.queue.specs.declared.Kind.{Kind}
 use Rattle.queue.specs.declared.Queue.{Queue}
 use Rattle.queue.specs.declared.Request.{Request}
-use Rattle.queue.specs.declared.Found.{Found}
-use Rattle.queue.specs.declared.Found.the-variants.{At, Nothing}
+use Rattle.queue.specs.declared.Found.the-variants.{At}
 use Rattle.queue.specs.Places.{cellHeld, heldOf, getOf, acceptOf}
 use Rattle.queue.proofs.Order.{Each}
 use Rattle.queue.specs.Oldest.{oldestOf}
@@ -51,7 +50,7 @@ use Rattle.plan.specs.declared.Action.the-variants.{
 use Rattle.plan.specs.declared.Control.{Control}
 use Rattle.plan.specs.Actions.{isIdle, underWay}
 use Rattle.plan.specs.Plan.{quietly, rest, planOf, queueAfter, countersAfter}
-use Rattle.plan.specs.Choice.{Choice, accessOr, needs, idleRefresh, rulesOf, choiceOf, currentOf}
+use Rattle.plan.specs.Choice.{Choice, needs, idleRefresh, rulesOf, choiceOf, currentOf}
 use Rattle.soundness.proofs.Past.{programmed-kept}
 use Rattle.soundness.proofs.Slot.{found-both}
 use Rattle.soundness.proofs.Plans.{Served, performedOf, servedOf, rest-only}

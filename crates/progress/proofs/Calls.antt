@@ -1,0 +1,119 @@
+-- In every list of calls with enough slots a choice is made, and the machine gets into service: by recursion over the calls, each of which leaves a sound
+-- record, and each slot of which takes one from the bound.
+use Prim.Native.Nat.{ℕ, _+_, _-_, _≤_, _<_}
+use mathlib.Core.Path.{_≡_, refl, ap, _∙_}
+use mathlib.Core.Bool.{true, false, true≢false}
+use mathlib.Core.List.{List, [], _∷_}
+use native.Mathlib.Omega.{arith}
+use Rattle.device.proofs.Tests.{by-test}
+use Rattle.queue.specs.declared.Kind.{Kind}
+use Rattle.queue.specs.Places.{getOf}
+use Rattle.plan.specs.declared.Action.{Action}
+use Rattle.plan.specs.declared.Action.the-variants.{
+  PowerUp,
+  InitPrecharge,
+  InitRefresh,
+  InitMode,
+  InitSettle,
+  Idle,
+  Access,
+  CasLatency,
+  Turnaround,
+  PrechargeAll,
+  Refresh,
+  RefreshCycle,
+}
+use Rattle.plan.specs.Actions.{isIdle, inService, underWay}
+use Rattle.sequencer.specs.declared.Machine.{Machine}
+use Rattle.sequencer.specs.Machine.{stepOf}
+use Rattle.sequencer.specs.Calls.{requestOf, slotOf}
+use Rattle.sequencer.proofs.Sound.{step-serves}
+use Rattle.model.specs.World.{Call, read, write, slot, backlog}
+use Rattle.model.proofs.Plans.{actedOf, afterOf, step-is}
+use Rattle.progress.specs.Calls.{afterCalls, slotsIn, chooses}
+use Rattle.progress.proofs.Start.{startLeft, left-none, none-left, sooner}
+use Rattle.progress.proofs.Machine.{Live, slot-is, step-live, waiting, asked, goes-on, step-nearer}
+
+-- A choice is made.
+
+slot-live : {m : Machine} → Live m → (bus : ℕ) → Live (slotOf m bus .machine)
+slot-live l bus = rw (slot-is l bus) (step-live l bus)
+
+slot-serves : {m : Machine} → Live m → (bus : ℕ) → inService (m .control .action) ≡ true → inService (slotOf m bus .machine .control .action) ≡ true
+slot-serves {m} l bus s = rw (slot-is l bus) (step-serves m (l .facts) bus s)
+
+slot-nearer : {m : Machine} → Live m → inService (m .control .action) ≡ true → isIdle (m .control .action) ≡ false → (bus : ℕ)
+    → waiting (slotOf m bus .machine) + 1 ≤ waiting m
+slot-nearer l s e bus = rw (slot-is l bus) (step-nearer l s e bus)
+
+-- of the calls that are left, from whatever live machine
+abbrev Choosing : List Call → Type 0
+Choosing ks = (m : Machine) → Live m → inService (m .control .action) ≡ true → waiting m < slotsIn ks → chooses m ks ≡ true
+
+choosing-asked : (ks : List Call) → Choosing ks → (m : Machine) → Live m → inService (m .control .action) ≡ true → waiting m < slotsIn ks
+    → (kind : Kind) (address halfword : ℕ) → chooses (requestOf m kind address halfword .machine) ks ≡ true
+choosing-asked ks next m l s h kind address halfword =
+    let r = asked l kind address halfword in
+    next (requestOf m kind address halfword .machine) (r .alive) (ap inService (r .action) ∙ s) (omega (arith, r .same))
+
+pub choosing : (calls : List Call) → Choosing calls
+choosing [] m l s h = absurd (omega arith)
+choosing (read a ∷ ks) m l s h = choosing-asked ks (choosing ks) m l s h Kind.Read a 0
+choosing (write a x ∷ ks) m l s h = choosing-asked ks (choosing ks) m l s h Kind.Write a x
+choosing (slot bus ∷ ks) m l s h =
+    by-test (isIdle (m .control .action))
+    (λ e. rw e)
+    (λ e. rw e (choosing ks (slotOf m bus .machine) (slot-live l bus) (slot-serves l bus s) (omega (arith, slot-nearer l s e bus))))
+choosing (backlog ∷ ks) m l s h = choosing ks m l s h
+
+-- The machine gets into service.
+
+abbrev starting : Machine → ℕ
+starting m = startLeft (m .config) (m .past) (m .control .action)
+
+init-busy : (a : Action) → inService a ≡ false → isIdle a ≡ false
+init-busy (PowerUp n) e = refl
+init-busy InitPrecharge e = refl
+init-busy (InitRefresh n) e = refl
+init-busy InitMode e = refl
+init-busy InitSettle e = refl
+init-busy Idle e = absurd (true≢false e)
+init-busy (Access i) e = refl
+init-busy (CasLatency i left) e = refl
+init-busy Turnaround e = refl
+init-busy PrechargeAll e = refl
+init-busy Refresh e = refl
+init-busy (RefreshCycle left) e = refl
+
+step-sooner : {m : Machine} → Live m → (bus : ℕ) → starting (stepOf m bus .machine) ≤ starting m - 1
+unfolding actedOf afterOf
+step-sooner {m} l bus =
+    by-test (inService (m .control .action))
+    (λ e.
+    let next = stepOf m bus .machine in
+    let z : starting next ≡ 0 = none-left (next .config) (next .past) (next .control .action) (step-serves m (l .facts) bus e) in
+    omega (arith, z))
+    (λ e.
+    rw (step-is m bus, goes-on m (init-busy (m .control .action) e))
+    (let x = sooner (l .facts .accepted) (m .past) (m .control .action) e (m .queue .count) (l .facts .action) (getOf (m .queue) (underWay (m .control .action))) bus in
+    omega (arith, x .by)))
+
+slot-sooner : {m : Machine} → Live m → (bus : ℕ) → starting (slotOf m bus .machine) ≤ starting m - 1
+slot-sooner l bus = rw (slot-is l bus) (step-sooner l bus)
+
+abbrev Starting : List Call → Type 0
+Starting ks = (m : Machine) → Live m → starting m ≤ slotsIn ks → inService (afterCalls m ks .control .action) ≡ true
+
+starting-asked : (ks : List Call) → Starting ks → (m : Machine) → Live m → starting m ≤ slotsIn ks → (kind : Kind) (address halfword : ℕ)
+    → inService (afterCalls (requestOf m kind address halfword .machine) ks .control .action) ≡ true
+starting-asked ks next m l h kind address halfword =
+    let r = asked l kind address halfword in
+    next (requestOf m kind address halfword .machine) (r .alive) (rw (r .config, r .past, r .action) h)
+
+pub started : (calls : List Call) → Starting calls
+started [] m l h = left-none (m .config) (m .past) (m .control .action) h
+started (read a ∷ ks) m l h = starting-asked ks (started ks) m l h Kind.Read a 0
+started (write a x ∷ ks) m l h = starting-asked ks (started ks) m l h Kind.Write a x
+started (slot bus ∷ ks) m l h =
+    started ks (slotOf m bus .machine) (slot-live l bus) (omega (arith, slot-sooner l bus))
+started (backlog ∷ ks) m l h = started ks m l h
