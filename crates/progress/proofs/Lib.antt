@@ -7,3 +7,4 @@ pub mod Machine
 pub mod Calls
 pub mod Backlog
 pub mod Going
+pub mod Examples
