@@ -301,7 +301,7 @@ start-world c a first =
 abbrev configured-by : Setting → Bool → Configured
 configured-by s b = cond b (record { number = 0; machine = machineOf (s .config) }) (record { number = s .number; machine = blankOf })
 
-configured-machine : (cfg row ref tim : ℕ) → configureOf cfg row ref tim .number ≡ 0
+pub configured-machine : (cfg row ref tim : ℕ) → configureOf cfg row ref tim .number ≡ 0
     → (configureOf cfg row ref tim .machine ≡ machineOf (configOf cfg row ref tim)) × Accepted (configOf cfg row ref tim)
 unfolding configureOf configuredBy
 configured-machine cfg row ref tim e = go (eqb (settingOf cfg row ref tim .number) 0) refl e

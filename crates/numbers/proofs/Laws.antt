@@ -132,6 +132,11 @@ module _ (b : Bool) (c : Config) (p : Past) (n : Counters) (x : Control) (q : Qu
       by-tests true false e f z = absurd (eqb-false _ _ f z)
       by-tests false t e f z = absurd (eqb-false _ _ e z)
 
+  pub request-record : (accepted address : ℕ) → requestNumberBy b c p n x q accepted address ≡ 0 → recordNumberBy b c p n x q ≡ 0
+  unfolding requestNumberBy
+  request-record accepted address h =
+      by-test (eqb (recordNumberBy b c p n x q) 0) (λ e. eqb-true _ _ e) (λ e. absurd (eqb-false _ _ e (rw e at h)))
+
   -- The code's tests: what it tests in one, and what it tests after that.
   fit-parts : fitBy c p n x q
       ≡ (acceptedOf c && (stateSound c p n (x .action) (q .count) && insideOf (c .geometry) (heldOf q)))

@@ -76,7 +76,7 @@ abbrev pub counts : ℕ → ℕ → Bool
 counts n most = leb 1 n && leb n most
 
 -- `programmed`: an MRS was sent; `closed`: all banks are closed; `count`: so many requests are queued. Counts are in their ranges; REFR and MRS come
--- only with all banks closed; in service an MRS was sent, and the request under way is queued
+-- only with all banks closed; from the initialisation's last NOP on an MRS was sent; the request under way is queued
 unfoldable pub soundAction : Config → Bool → Bool → ℕ → Action → Bool
 soundAction c programmed closed count (PowerUp n) = counts n (8 * c .rr)
 soundAction c programmed closed count InitPrecharge = true

@@ -1,5 +1,5 @@
 -- An action under way ends: each slot takes one at least from a bound on the slots that it still takes, for every sound record.
-use Prim.Native.Nat.{ℕ, _+_, _-_, _≤_}
+use Prim.Native.Nat.{ℕ, _+_, _-_, _≤_, _<_}
 use mathlib.Core.Path.{_≡_, refl}
 use mathlib.Core.Bool.{Bool, true, false, cond, true≢false, false≢true}
 use mathlib.Core.Option.{Option, none, some}
@@ -182,14 +182,14 @@ module _ {c : Config} (ok : Accepted c) (p : Past) (q : Queue) where
       go (no z) = held (omega arith) a g i bus
 
   -- The bound.
-  pub wait-most : (a : Action) → Going a → waitOf c p q a ≤ choiceWithin c
+  pub wait-most : (a : Action) → Going a → waitOf c p q a < choiceWithin c
   unfolding choiceWithin
   wait-most (PowerUp n) g = absurd (false≢true (g .service))
   wait-most InitPrecharge g = absurd (false≢true (g .service))
   wait-most (InitRefresh n) g = absurd (false≢true (g .service))
   wait-most InitMode g = absurd (false≢true (g .service))
   wait-most InitSettle g = absurd (false≢true (g .service))
-  wait-most Idle g = omega arith
+  wait-most Idle g = omega (arith, ok .access-span)
   wait-most (Access i) g = omega (arith, gap-most ok p, access-most ok p (getOf q i))
   wait-most (CasLatency i left) g = omega (arith, g .sound .3, ok .access-span)
   wait-most Turnaround g = omega (arith, ok .access-span)

@@ -1,16 +1,16 @@
 -- A backlog is worked off, over a list of slots: what is owed, with a refresh for each of four intervals that may expire meanwhile, is done before the
 -- last of them has.
 use Prim.Native.Nat.{ℕ, zero, suc, _+_, _-_, _*_, _≤_, _<_, max}
-use mathlib.Core.Path.{_≡_, refl, ap, _∙_}
-use mathlib.Core.Bool.{Bool, true, false, false≢true}
+use mathlib.Core.Path.{_≡_, refl, sym, ap, _∙_}
+use mathlib.Core.Bool.{Bool, true, false, _||_, false≢true}
 use mathlib.Core.List.{List, [], _∷_}
 use mathlib.Core.Logic.{dite}
 use native.Mathlib.Omega.{arith}
 use native.Mathlib.Nat.{suc-mul, mul-le-mul-right, lt-of-not-le}
 use native.Mathlib.Decide.{ℕ-discrete, decLe}
-use lib.Dec.{eqb, leb}
+use lib.Dec.{eqb}
 use lib.ListN.{length}
-use borrow.Author.Tests.{eq-eqb, ne-eqb, leb-true}
+use borrow.Author.Tests.{eq-eqb, ne-eqb}
 use Rattle.config.specs.declared.Config.{Config}
 use Rattle.config.specs.Accepted.{Accepted}
 use Rattle.device.specs.View.{anyPrecharge, allClosed}
@@ -18,7 +18,12 @@ use Rattle.device.proofs.Tests.{by-test, if-both}
 use Rattle.ages.specs.declared.Past.{Past}
 use Rattle.ages.specs.Ages.{rowAt}
 use Rattle.queue.specs.Places.{getOf}
+use Rattle.queue.specs.declared.Found.the-variants.{Nothing}
 use Rattle.refresh.specs.declared.Counters.{Counters}
+use Rattle.refresh.specs.declared.Level.{Level}
+use Rattle.refresh.specs.declared.Level.the-variants.{Clear, May, Release, Need, Must}
+use Rattle.refresh.specs.Urgency.{levelOf, runOf}
+use Rattle.refresh.proofs.Levels.{Within, level-in}
 use Rattle.refresh.specs.Counting.{tickOf, refreshedOf}
 use Rattle.refresh.proofs.Counts.{Bounded, tick-stays, tick-expires, tick-full}
 use Rattle.plan.specs.declared.Action.{Action}
@@ -38,7 +43,7 @@ use Rattle.plan.specs.declared.Action.the-variants.{
 }
 use Rattle.plan.specs.Actions.{isIdle, inService, underWay}
 use Rattle.plan.specs.Plan.{countersAfter}
-use Rattle.plan.specs.Choice.{choiceOf, currentOf}
+use Rattle.plan.specs.Choice.{rulesOf, choiceOf, currentOf}
 use Rattle.plan.specs.Slot.{tickedOf}
 use Rattle.plan.proofs.Sound.{SoundAction}
 use Rattle.soundness.proofs.Plans.{Served, servedOf}
@@ -50,13 +55,14 @@ use Rattle.model.specs.World.{backlog}
 use Rattle.model.proofs.Invariant.{short, allHeld}
 use Rattle.model.proofs.Plans.{countersOf, chosenOf, actedOf, afterOf, step-is}
 use Rattle.progress.specs.Progress.{
+  refreshing,
   workedOffWithin,
   refreshedNext,
   worksOff,
 }
 use Rattle.progress.proofs.Distances.{gap, gap-most, short-most, all-most}
 use Rattle.progress.proofs.Refresh.{owedLeft, Due, enough, all-closed, under, Works, works, choice-works, chooses-refresh, empty-stays}
-use Rattle.progress.proofs.Machine.{Live, live, slot-is, step-live, goes-on}
+use Rattle.progress.proofs.Machine.{step-config, Live, live, slot-is, step-live, goes-on}
 
 abbrev owing : Machine → ℕ
 owing m = owedLeft (m .config) (m .past) (m .control .action) (m .counters .backlog)
@@ -120,16 +126,12 @@ module _ {m : Machine} (q : Resting m) (a : Action) (must : Bool) (x : chosenOf 
   unfolding actedOf afterOf
   step-interval = rw (step-is m bus, x, counters-in m (q .service)) (after-interval (tickedIn m) (s .outcome .refreshes))
 
-  step-config : stepOf m bus .machine .config ≡ m .config
-  unfolding stepOf
-  step-config = refl
-
   rested : Rested m (stepOf m bus .machine) (owedLeft (m .config) (m .past) a (tickedIn m .backlog))
   rested =
       record {
         still = record { alive = step-live (q .alive) bus; service = step-serves m (q .alive .facts) bus (q .service); empty = step-empty; due = step-due };
         less = step-less;
-        config = step-config;
+        config = step-config m bus;
         interval = step-interval;
       }
 
@@ -310,14 +312,30 @@ module _ (c : Config) where
       (goes q some (s .config) (rest-slot q some bus) rest (working rest) k s h (ticks (q .alive .facts .counters))))
 
 -- from any record
+
+rule-due : (p : Past) (a : Action) (must closed : Bool) (l : Level) (b : ℕ) → Within l b → allClosed (rowAt p) ≡ closed
+    → refreshing (rulesOf (runOf must l) l Nothing Nothing closed) ≡ true → Due p a b
+unfolding rulesOf
+rule-due p a must closed Clear b w e h = absurd (false≢true h)
+rule-due p a must true May b w e h = all-closed e
+rule-due p a must false May b w e h = absurd (false≢true h)
+rule-due p a must closed Release b w e h = enough (w .0)
+rule-due p a must closed Need b w e h = enough (omega (arith, w .0))
+rule-due p a must closed Must b w e h = enough (omega arith)
+
 resting-due : (m : Machine) → refreshedNext m ≡ true → Due (m .past) (m .control .action) (m .counters .backlog)
 resting-due m h =
-    by-test (leb 4 (m .counters .backlog))
-    (λ e. enough (leb-true 4 (m .counters .backlog) e))
+    by-test (refreshing (m .control .action))
+    (λ e. under e)
     (λ e.
-    by-test (allClosed (rowAt (m .past)))
-    (λ f. all-closed f)
-    (λ f. under (rw (e, f) at h)))
+    let level = levelOf (m .counters .backlog) in
+    let chosen = refreshing (rulesOf (runOf (m .control .must) level) level Nothing Nothing (allClosed (rowAt (m .past)))) in
+    rule-due (m .past) (m .control .action) (m .control .must) (allClosed (rowAt (m .past))) level (m .counters .backlog) (level-in (m .counters .backlog)) refl
+    (sym (or-false chosen) ∙ rw e at h))
+  where
+    or-false : (x : Bool) → (x || false) ≡ x
+    or-false true = refl
+    or-false false = refl
 
 owing-most : {m : Machine} → Resting m → owing m ≤ 16 * m .config .refresh
 owing-most {m} q =
@@ -333,7 +351,7 @@ owing-most {m} q =
     by-action : (a : Action) → inService a ≡ true → SoundAction (m .config) (m .past .programmed) (allClosed (rowAt (m .past))) (m .queue .count) a
         → m .counters .backlog * m .config .refresh ≤ 15 * m .config .refresh
         → (m .counters .backlog - 1) * m .config .refresh ≤ 14 * m .config .refresh
-        → gap (m .config) (m .past) ≤ m .config .refresh → allHeld (m .config) (m .past) ≤ max (m .config .ras) (m .config .wr)
+        → gap (m .config) (m .past) < m .config .refresh → allHeld (m .config) (m .past) ≤ max (m .config .ras) (m .config .wr)
         → short (m .config) (m .past) anyPrecharge ≤ m .config .rp
         → m .config .refresh ≡ max (m .config .ras) (m .config .wr) + m .config .rp + m .config .rfc → 1 ≤ m .config .rfc
         → owedLeft (m .config) (m .past) a (m .counters .backlog) ≤ 16 * m .config .refresh

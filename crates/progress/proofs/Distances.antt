@@ -106,7 +106,7 @@ module _ {c : Config} (ok : Accepted c) (p : Past) where
   unfolding short
   short-most d = omega arith
 
-  pub gap-most : gap c p ≤ c .refresh
+  pub gap-most : gap c p < c .refresh
   unfolding gap
   gap-most = omega (arith, short-most refreshCycle, short-most modeRegister, ok .refresh-span, ok .ras-least, ok .rp-least, ok .rfc-least)
 

@@ -1,8 +1,8 @@
 -- Worked examples, computed: the bounds are met by records that no calls made, and A + F slots are not enough for a choice.
 use Prim.Native.Nat.{ℕ}
 use mathlib.Core.Path.{_≡_, refl}
-use mathlib.Core.Bool.{Bool, true, false}
-use mathlib.Core.List.{List, [], _∷_, _++_}
+use mathlib.Core.Bool.{true, false}
+use mathlib.Core.List.{List, [], _∷_}
 use lib.ListN.{replicate}
 use Rattle.config.specs.declared.Config.{Config}
 use Rattle.config.specs.Accepted.{acceptedOf as configAccepted, shapedOf, distancesOf, spannedOf}
@@ -29,7 +29,8 @@ use Rattle.sequencer.specs.Machine.{machineWith, stepOf}
 use Rattle.sequencer.specs.Sound.{soundOf}
 use Rattle.sequencer.specs.Calls.{queuedRequest, enqueuedOf, requestOf, refusedWith, slotOf}
 use Rattle.model.specs.World.{Call, read, slot}
-use Rattle.progress.specs.Calls.{afterCalls, slotsIn, chooses}
+use Rattle.model.specs.Condition.{firstService}
+use Rattle.progress.specs.Calls.{afterCalls, chooses}
 use Rattle.progress.specs.Progress.{startWithin, choiceWithin, workedOffWithin, refreshedNext, worksOff}
 
 -- tRFC 32 and all other distances 1, CL 2: A 9, F 34, RR 213
@@ -68,14 +69,14 @@ record Examples : Type 0 where
   started :
       (inService (afterCalls (made InitPrecharge 0) (busy 290) .control .action) ≡ false)
       × (inService (afterCalls (made InitPrecharge 0) (busy 291) .control .action) ≡ true)
-  -- a refresh under way waits for tRFC, and then takes tRP + tRFC slots: a choice comes in slot 66, not within A + F = 43
+  -- a refresh under way waits for tRFC, and then takes tRP + tRFC slots: a choice comes in slot 66, not within A + F = 43 slots
   chosen : (chooses (made PrechargeAll 15) (busy 65) ≡ false) × (chooses (made PrechargeAll 15) (busy 66) ≡ true)
   -- a backlog of 15, and two intervals that expire meanwhile, take 17 refreshes; at backlog 3 with a bank open there is none
   worked-off : (worksOff (made Idle 15) (replicate 562 0) ≡ true) × (worksOff (made Idle 15) (replicate 561 0) ≡ false) × (refreshedNext (made Idle 3) ≡ false)
-  bounds : startWithin slow ∷ choiceWithin slow ∷ workedOffWithin slow ∷ [] ≡ 1963 ∷ 77 ∷ 680 ∷ []
+  bounds : startWithin slow ∷ choiceWithin slow ∷ workedOffWithin slow ∷ [] ≡ 1963 ∷ 68 ∷ 680 ∷ []
 
 examples : Examples
-unfolding startWithin choiceWithin workedOffWithin recordNumberBy roomNumberOf requestNumberBy queuedRequest enqueuedOf requestOf refusedWith slotOf stepOf configAccepted shapedOf distancesOf spannedOf fitBy soundBy soundAction soundQueue capacityOf cellOf holdsOf addressNumberOf allClosed marksOf rowOf legalOf requirements R7 R12-open R13-open R14 openedOf rowIn rowAt agedOf agesAfter sentOf carriedOf emptyOf acceptOf removeOf getOf without blockedOf readyOf oldestOf counting.tickOf counting.refreshedOf counting.soundCounters levelOf plan.quietly plan.outcomeOf plan.tries plan.rest plan.afterPause plan.afterInitRefresh plan.readPlan plan.writePlan plan.transferPlan plan.accessPlan plan.takenPlan plan.latencyPlan plan.cycleLeft plan.refreshPlan plan.planOf plan.queueAfter plan.countersAfter choice.rulesOf choice.choiceOf choice.currentOf tickedOf turnOf
+unfolding startWithin firstService choiceWithin workedOffWithin recordNumberBy roomNumberOf requestNumberBy queuedRequest enqueuedOf requestOf refusedWith slotOf stepOf configAccepted shapedOf distancesOf spannedOf fitBy soundBy soundAction soundQueue capacityOf cellOf holdsOf addressNumberOf allClosed marksOf rowOf legalOf requirements R7 R12-open R13-open R14 openedOf rowIn rowAt agedOf agesAfter sentOf carriedOf emptyOf acceptOf removeOf getOf without blockedOf readyOf oldestOf counting.tickOf counting.refreshedOf counting.soundCounters levelOf plan.quietly plan.outcomeOf plan.tries plan.rest plan.afterPause plan.afterInitRefresh plan.readPlan plan.writePlan plan.transferPlan plan.accessPlan plan.takenPlan plan.latencyPlan plan.cycleLeft plan.refreshPlan plan.planOf plan.queueAfter plan.countersAfter choice.rulesOf choice.choiceOf choice.currentOf tickedOf turnOf
 examples =
     record {
       sound = (refl, refl, refl);

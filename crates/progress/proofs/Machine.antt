@@ -53,7 +53,7 @@ live m z =
       facts = record-facts m z;
     }
 
-live-number : {m : Machine} → Live m → recordNumberOf m ≡ 0
+pub live-number : {m : Machine} → Live m → recordNumberOf m ≡ 0
 live-number {m} l = numbers.facts-number (m .configured) (m .config) (m .past) (m .counters) (m .control) (m .queue) (l .configured) (l .facts)
 
 -- a slot is a step
@@ -63,6 +63,10 @@ slot-is {m} l bus = slot-steps m bus (live-number l)
 pub step-live : {m : Machine} → Live m → (bus : ℕ) → Live (stepOf m bus .machine)
 unfolding stepOf
 step-live {m} l bus = record { configured = l .configured; facts = step-sound m (l .facts) bus }
+
+pub step-config : (m : Machine) (bus : ℕ) → stepOf m bus .machine .config ≡ m .config
+unfolding stepOf
+step-config m bus = refl
 
 -- what a sound record says of its action
 sound-queued : (c : Config) (programmed closed : Bool) (q : Queue) (a : Action) → SoundAction c programmed closed (q .count) a → Queued q a

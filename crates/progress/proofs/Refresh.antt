@@ -47,7 +47,7 @@ use Rattle.plan.specs.Actions.{isIdle, inService}
 use Rattle.plan.specs.Plan.{quietly, tries, rest, cycleLeft, refreshPlan, planOf, queueAfter, countersAfter}
 use Rattle.plan.specs.Choice.{needs, idleRefresh, rulesOf, choiceOf}
 use Rattle.plan.proofs.Sound.{SoundAction}
-use Rattle.soundness.proofs.Past.{nop-closed, refr-closed}
+use Rattle.soundness.proofs.Past.{nop-closed, refr-closed, deac-closed}
 use Rattle.soundness.proofs.Plans.{Served, performedOf, servedOf, sending, performed-both, rest-only}
 use Rattle.model.proofs.Invariant.{short, allHeld}
 use Rattle.model.proofs.Timing.Distances.{all-falls, deac-ready, refr-ready}
@@ -115,7 +115,7 @@ module _ {c : Config} (ok : Accepted c) (p : Past) (n : Counters) where
       performed-both c p (Works PrechargeAll) (tries Deac PrechargeAll Refresh)
       (λ e.
       let z : gap c p ≡ 0 = legal-r2 c p Deac e in
-      record { by = omega (arith, gap-deac ok p, close-deac ok p, ok .rp-least); due = λ d. under refl })
+      record { by = omega (arith, gap-deac ok p, close-deac ok p, ok .rp-least); due = λ d. all-closed (deac-closed p) })
       (λ e.
       let w : 1 ≤ gap c p + allHeld c p = waits (gap c p + allHeld c p) (λ z. deac-ready c p (gap-ready c p (omega arith)) (omega arith)) e in
       record { by = omega (arith, gap-nop ok p, all-falls ok p .by); due = λ d. under refl })
@@ -133,7 +133,7 @@ module _ {c : Config} (ok : Accepted c) (p : Past) (n : Counters) where
       (λ e.
       let w : 1 ≤ gap c p + short c p anyPrecharge
       = waits (gap c p + short c p anyPrecharge) (λ z. refr-ready c p (gap-ready c p (omega arith)) h (omega arith)) e in
-      record { by = omega (arith, gap-nop ok p, close-nop ok p); due = λ d. under refl })
+      record { by = omega (arith, gap-nop ok p, close-nop ok p); due = λ d. all-closed (nop-closed p ∙ h) })
     where
       sent-as : Action → Served
       sent-as a = sending p Refr (record { action = a; report = Report.Nothing; leaves = false; refreshes = true })

@@ -33,6 +33,7 @@ use Rattle.plan.specs.Actions.{inService}
 use Rattle.plan.specs.Plan.{quietly, tries, rest, afterPause, afterInitRefresh, modeWord, planOf}
 use Rattle.plan.proofs.Sound.{SoundAction}
 use Rattle.soundness.proofs.Plans.{Served, performedOf, servedOf, performed-both, rest-only}
+use Rattle.model.specs.Condition.{firstService}
 use Rattle.model.proofs.Invariant.{short, allHeld}
 use Rattle.model.proofs.Timing.Distances.{short-falls, short-new, all-falls, deac-ready, refr-ready}
 use Rattle.model.proofs.Timing.Actions.{waits}
@@ -188,7 +189,7 @@ module _ {c : Config} (ok : Accepted c) (p : Past) where
 
   -- The bound.
   pub start-most : (a : Action) (count : ℕ) → SoundAction c (p .programmed) (allClosed (rowAt p)) count a → startLeft c p a ≤ startWithin c
-  unfolding startWithin
+  unfolding startWithin firstService
   start-most (PowerUp n) count s = omega (arith, s .1, gap-most ok p, all-most ok p, ok .long-enough, ok .access-span)
   start-most InitPrecharge count s = omega (arith, gap-most ok p, all-most ok p, ok .long-enough, ok .access-span)
   start-most (InitRefresh n) count s =

@@ -1,4 +1,4 @@
--- Calls on a machine alone: any requests, and anything on the bus.
+-- Calls on a machine alone, with no SDRAM beside it: any requests, and a slot's halfword is what the bus carries.
 use Prim.Native.Nat.{ℕ, _+_}
 use mathlib.Core.Bool.{Bool, false, _||_}
 use mathlib.Core.List.{List, [], _∷_}

@@ -1,14 +1,17 @@
--- What keeps a terminal going: a terminal that stops cannot be reached (the tender, condition 1). All of it holds of every record whose number is 0,
--- configured and sound, whether calls made it or not.
-use Prim.Native.Nat.{ℕ, _+_, _*_, _≤_, _<_}
+-- What keeps a terminal going, since nobody can get to one that has stopped (the tender, condition 1). It holds of all records, whether calls made them
+-- or not; number 0 says that a record is configured and sound.
+use Prim.Native.Nat.{ℕ, _+_, _-_, _*_, _≤_, max}
 use mathlib.Core.Path.{_≡_}
 use mathlib.Core.Bool.{Bool, true, false, _||_}
 use mathlib.Core.List.{List, [], _∷_}
-use lib.Dec.{eqb, leb}
+use lib.Dec.{eqb}
 use lib.ListN.{length}
 use Rattle.config.specs.declared.Config.{Config}
 use Rattle.device.specs.View.{allClosed}
 use Rattle.ages.specs.Ages.{rowAt}
+use Rattle.queue.specs.declared.Found.the-variants.{Nothing}
+use Rattle.refresh.specs.declared.Level.{Level}
+use Rattle.refresh.specs.Urgency.{levelOf, runOf}
 use Rattle.plan.specs.declared.Action.{Action}
 use Rattle.plan.specs.declared.Action.the-variants.{
   PowerUp,
@@ -25,34 +28,42 @@ use Rattle.plan.specs.declared.Action.the-variants.{
   RefreshCycle,
 }
 use Rattle.plan.specs.Actions.{inService}
+use Rattle.plan.specs.Choice.{rulesOf}
 use Rattle.sequencer.specs.declared.Machine.{Machine}
-use Rattle.sequencer.specs.Sound.{soundOf}
 use Rattle.sequencer.specs.Calls.{configureOf, recordNumberOf, readRequestOf, writeRequestOf, slotOf}
 use Rattle.model.specs.World.{Call}
+use Rattle.model.specs.Condition.{firstService}
 use Rattle.progress.specs.Calls.{afterCalls, slotsIn, chooses}
 
--- Every call on a sound record gives a sound record. (The reading call gives none.)
+-- A call neither blanks a record nor makes it unsound: 9, 8 or 0 is given for it as before. It keeps the configuration, and it ends no service.
+pub record Keeps (m next : Machine) : Type 0 where
+  pub number : recordNumberOf next ≡ recordNumberOf m
+  pub config : next .config ≡ m .config
+  pub service : inService (m .control .action) ≡ true → inService (next .control .action) ≡ true
+
+-- Every call, for every record. (The reading call gives none back.)
 pub record KeptSound : Type 0 where
-  pub configure : (cfg row ref tim : ℕ) → soundOf (configureOf cfg row ref tim .machine) ≡ true
-  pub read : (m : Machine) (address : ℕ) → soundOf m ≡ true → soundOf (readRequestOf m address .machine) ≡ true
-  pub write : (m : Machine) (address halfword : ℕ) → soundOf m ≡ true → soundOf (writeRequestOf m address halfword .machine) ≡ true
-  pub slot : (m : Machine) (bus : ℕ) → soundOf m ≡ true → soundOf (slotOf m bus .machine) ≡ true
+  pub configured : (cfg row ref tim : ℕ) → configureOf cfg row ref tim .number ≡ 0 → recordNumberOf (configureOf cfg row ref tim .machine) ≡ 0
+  pub blank : (cfg row ref tim : ℕ) → (configureOf cfg row ref tim .number ≡ 0 → ⊥) → recordNumberOf (configureOf cfg row ref tim .machine) ≡ 8
+  pub read : (m : Machine) (address : ℕ) → Keeps m (readRequestOf m address .machine)
+  pub write : (m : Machine) (address halfword : ℕ) → Keeps m (writeRequestOf m address halfword .machine)
+  pub slot : (m : Machine) (bus : ℕ) → Keeps m (slotOf m bus .machine)
 
 -- The bounds, in slots.
 
 -- the initialisation's own length: the slots before the first service slot
 unfoldable pub startWithin : Config → ℕ
-startWithin c = 8 * c .rr + c .rp + 8 * c .rfc + 2
+startWithin c = firstService c - 1
 
--- an action under way: A or F at most, and before it what R2 asks after a REFR that the record may have just sent, F at most
+-- an action under way takes A or F at most; before that R2 may ask for tRFC or 2 slots after a command that the record says was just sent, below F
 unfoldable pub choiceWithin : Config → ℕ
-choiceWithin c = c .access + 2 * c .refresh
+choiceWithin c = c .refresh + max (c .access) (c .refresh)
 
--- fifteen refreshes and those that come due meanwhile, of F slots each
+-- fifteen refreshes, and one for each of the four intervals at most that expire meanwhile (RR is above 6F), of F slots each, and R2's wait before them
 unfoldable pub workedOffWithin : Config → ℕ
 workedOffWithin c = 20 * c .refresh
 
--- Is the backlog one that is refreshed with nothing queued (rules 1, 3 and 5)? From 4 on, or with all banks closed, as a refresh under way leaves them.
+-- is it the choice of a refresh?
 abbrev pub refreshing : Action → Bool
 refreshing (PowerUp n) = false
 refreshing InitPrecharge = false
@@ -64,11 +75,14 @@ refreshing (Access i) = false
 refreshing (CasLatency i left) = false
 refreshing Turnaround = false
 refreshing PrechargeAll = true
-refreshing Refresh = true
+refreshing Refresh = false
 refreshing (RefreshCycle left) = false
 
+-- with no request to choose, rule 1, 3 or 5 refreshes, as the record is; or such a refresh is just chosen
 abbrev pub refreshedNext : Machine → Bool
-refreshedNext m = leb 4 (m .counters .backlog) || (allClosed (rowAt (m .past)) || refreshing (m .control .action))
+refreshedNext m =
+    let level : Level = levelOf (m .counters .backlog) in
+    refreshing (rulesOf (runOf (m .control .must) level) level Nothing Nothing (allClosed (rowAt (m .past)))) || refreshing (m .control .action)
 
 -- is the backlog 0 now, or after one of the slots with these halfwords on the bus?
 abbrev pub worksOff : Machine → List ℕ → Bool
@@ -79,8 +93,8 @@ pub record Progress : Type 0 where
   -- with any requests and any bus: the machine gets into service and stays there
   pub started : (m : Machine) → recordNumberOf m ≡ 0 → (calls : List Call) → startWithin (m .config) ≤ slotsIn calls
       → inService (afterCalls m calls .control .action) ≡ true
-  -- in service, a choice is made
-  pub chosen : (m : Machine) → recordNumberOf m ≡ 0 → inService (m .control .action) ≡ true → (calls : List Call) → choiceWithin (m .config) < slotsIn calls
+  -- in service, one of the slots makes a choice
+  pub chosen : (m : Machine) → recordNumberOf m ≡ 0 → inService (m .control .action) ≡ true → (calls : List Call) → choiceWithin (m .config) ≤ slotsIn calls
       → chooses m calls ≡ true
   -- in service, with nothing queued and no new requests: a backlog that is refreshed then is worked off
   pub worked-off : (m : Machine) → recordNumberOf m ≡ 0 → inService (m .control .action) ≡ true → m .queue .count ≡ 0 → refreshedNext m ≡ true
