@@ -3,6 +3,7 @@
 -- write and a read of one address.
 use Prim.Native.Nat.{ℕ, zero, suc, _+_, _-_}
 use mathlib.Core.Path.{_≡_, refl}
+use mathlib.Core.Logic.{⊎-elim}
 use mathlib.Core.Bool.{Bool, true, _&&_, not}
 use mathlib.Core.List.{List, [], _∷_, _++_, map, List·Memᴰ, List·Memᴰ·not-nil, List·Memᴰ·cases-cons}
 use mathlib.Core.Option.{some}
@@ -43,7 +44,7 @@ use Rattle.sequencer.specs.Calls.{
 }
 use Rattle.model.specs.Sdram.{stored, startSdram, cellsAfter, drivenAfter, takes, sdramAfter}
 use Rattle.model.specs.Flat.{startFlat, taken, flatAfter}
-use Rattle.model.specs.Condition.{firstService, expiries, refreshes, Carried}
+use Rattle.model.specs.Condition.{firstService, expiries, refreshes, InBounds, Reports}
 use Rattle.model.specs.World.{World, Call, read, write, slot, startWorld, busOf, slotIn, afterSlot, afterRequest, after, played}
 
 -- a list n times
@@ -85,11 +86,9 @@ absent n (x ∷ l) = not (eqb n x) && absent n l
 
 absent-not : (n : ℕ) (l : List ℕ) → absent n l ≡ true → List·Memᴰ n l → ⊥
 absent-not n [] e m = List·Memᴰ·not-nil m
-absent-not n (x ∷ l) e m = go (both (not (eqb n x)) (absent n l) e) (List·Memᴰ·cases-cons m)
-  where
-    go : (not (eqb n x) ≡ true) × (absent n l ≡ true) → (n ≡ x) ⊎ List·Memᴰ n l → ⊥
-    go h (inl p) = eqb-false n x (not-true (eqb n x) (h .0)) p
-    go h (inr p) = absent-not n l (h .1) p
+absent-not n (x ∷ l) e m =
+    let h = both (not (eqb n x)) (absent n l) e in
+    ⊎-elim (eqb-false n x (not-true (eqb n x) (h .0))) (absent-not n l (h .1)) (List·Memᴰ·cases-cons m)
 
 pub record ClosedRun : Type 0 where
   pub odd : readRequestOf machine 1 .number ≡ 4
@@ -106,18 +105,17 @@ pub record ClosedRun : Type 0 where
   pub stored-nine : world (opening ++ (busy ++ rest)) .sdram .cells (cellAt 0 0 0) ≡ 9
   -- and the refreshes were made up for
   pub refreshed : refreshes (machine .config) (world (opening ++ (busy ++ rest))) ≡ 15
-  -- slot 551 sees a backlog of 12, and what is claimed of it holds
+  -- slot 551 sees a backlog of 12, which is in the bounds that are claimed
   pub twelve : expiries (machine .config) (brim .sdram .log .now + 1) - refreshes (machine .config) brim ≡ 12
-  pub brim-slot : Carried (machine .config) brim (slotIn brim 0)
-  -- the read's halfword is what the address held before the write, though the write was accepted before its report; and the last read's is the
-  -- write's
+  pub within : InBounds (expiries (machine .config) (brim .sdram .log .now + 1) - refreshes (machine .config) brim)
+  -- the first read's halfword is what the address held before the write, though the write was accepted before its report; the last read's is
+  -- the write's; and these reports are as claimed
   pub told :
       map (λ w. completionOf (slotIn w 0 .report)) (chain 230 ∷ chain 232 ∷ chain 235 ∷ [])
       ≡ some (readDone 1 5) ∷ some (writeDone 2) ∷ some (readDone 3 9) ∷ []
-  pub read-slot : Carried (machine .config) (chain 230) (slotIn (chain 230) 0)
-  pub write-slot : Carried (machine .config) (chain 232) (slotIn (chain 232) 0)
-  pub reread-slot : Carried (machine .config) (chain 235) (slotIn (chain 235) 0)
-  -- in the end each accepted request was reported once, and both memories have the write's halfword, in column 1
+  pub read-reported : Reports (chain 230) (slotIn (chain 230) 0 .report)
+  pub reread-reported : Reports (chain 235) (slotIn (chain 235) 0 .report)
+  -- each request was reported once, and both memories have the write's halfword, in column 1
   pub once : chain 236 .reported ≡ 3 ∷ 2 ∷ 1 ∷ []
   pub flat-nine : chain 236 .flat .contents 2 ≡ 9
   pub cells-nine : chain 236 .sdram .cells (cellAt 0 0 1) ≡ 9
@@ -137,43 +135,10 @@ closed-run =
       stored-nine = refl;
       refreshed = refl;
       twelve = refl;
-      brim-slot =
-          record {
-            answered = refl;
-            taken = refl;
-            reports = (record { least = leb-true _ _ refl; accepted = leb-true _ _ refl; new = absent-not _ _ refl; of-kind = refl }, refl);
-            owed = leb-true _ _ refl;
-            within = leb-true _ _ refl;
-            counted = λ e. refl;
-          };
+      within = leb-true _ _ refl;
       told = refl;
-      read-slot =
-          record {
-            answered = refl;
-            taken = refl;
-            reports = (record { least = leb-true _ _ refl; accepted = leb-true _ _ refl; new = absent-not _ _ refl; of-kind = refl }, refl);
-            owed = leb-true _ _ refl;
-            within = leb-true _ _ refl;
-            counted = λ e. refl;
-          };
-      write-slot =
-          record {
-            answered = refl;
-            taken = refl;
-            reports = (record { least = leb-true _ _ refl; accepted = leb-true _ _ refl; new = absent-not _ _ refl; of-kind = refl }, tt);
-            owed = leb-true _ _ refl;
-            within = leb-true _ _ refl;
-            counted = λ e. refl;
-          };
-      reread-slot =
-          record {
-            answered = refl;
-            taken = refl;
-            reports = (record { least = leb-true _ _ refl; accepted = leb-true _ _ refl; new = absent-not _ _ refl; of-kind = refl }, refl);
-            owed = leb-true _ _ refl;
-            within = leb-true _ _ refl;
-            counted = λ e. refl;
-          };
+      read-reported = (record { least = leb-true _ _ refl; accepted = leb-true _ _ refl; new = absent-not _ _ refl; of-kind = refl }, refl);
+      reread-reported = (record { least = leb-true _ _ refl; accepted = leb-true _ _ refl; new = absent-not _ _ refl; of-kind = refl }, refl);
       once = refl;
       flat-nine = refl;
       cells-nine = refl;

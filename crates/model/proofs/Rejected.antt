@@ -45,17 +45,17 @@ kept d = record { log = record { now = suc (d .log .now); past = d .log .past };
 ready : Sdram
 ready = sdram opened (fetch ∷ store ∷ [])
 
-pub record Rejects : Type 0 where
-  pub rejected : map (takes config opened) illegal ≡ replicate 7 false
-  pub keeps : map (sdramAfter config opened) illegal ≡ replicate 7 (kept opened)
-  pub untouched : ready .cells (cellAt 1 2 4) ≡ 5
-  pub taken : map (takes config ready) (fetch ∷ store ∷ []) ≡ true ∷ true ∷ []
+record Rejects : Type 0 where
+  rejected : map (takes config opened) illegal ≡ replicate 7 false
+  keeps : map (sdramAfter config opened) illegal ≡ replicate 7 (kept opened)
+  untouched : ready .cells (cellAt 1 2 4) ≡ 5
+  taken : map (takes config ready) (fetch ∷ store ∷ []) ≡ true ∷ true ∷ []
   -- a READ in slot 6 is on the bus in slot 9; a WRT changes its own cell alone
-  pub driven : sdramAfter config ready fetch .driven ≡ record { slot = 9; halfword = 5 } ∷ []
-  pub written :
+  driven : sdramAfter config ready fetch .driven ≡ record { slot = 9; halfword = 5 } ∷ []
+  written :
       map (sdramAfter config ready store .cells) (cellAt 1 2 4 ∷ cellAt 1 2 0 ∷ cellAt 1 2 5 ∷ cellAt 1 0 4 ∷ cellAt 0 2 4 ∷ [])
       ≡ 9 ∷ 5 ∷ 5 ∷ 5 ∷ 5 ∷ []
 
-pub rejects : Rejects
+rejects : Rejects
 unfolding config sdram opened fetch store illegal kept ready configOf geometryOf marksOf rowOf R7 R12-open R13-open R14 requirements legalOf last openRow startLog fed stored startSdram cellsAfter drivenAfter takes sdramAfter
 rejects = record { rejected = refl; keeps = refl; untouched = refl; taken = refl; driven = refl; written = refl }
