@@ -1,6 +1,6 @@
 -- Closed lists of calls, computed: the third condition is not about an empty set of runs, and a claim that says something else is refuted by a
--- figure. The first has refusals, a Must run, a read that sees a write, and a read that is served before an older write; the second a read, a
--- write and a read of one address.
+-- figure. The first has refusals, a Must run, and a read that is served before an older write; the second a read, a write and a read of one
+-- address.
 use Prim.Native.Nat.{ℕ, zero, suc, _+_, _-_}
 use mathlib.Core.Path.{_≡_, refl}
 use mathlib.Core.Logic.{⊎-elim}
@@ -100,8 +100,7 @@ pub record ClosedRun : Type 0 where
   pub all : length (world (opening ++ (busy ++ rest)) .reported) ≡ 85
   pub first : drop 84 (world (opening ++ (busy ++ rest)) .reported) ≡ 3 ∷ []
   pub last-two : take 2 (world (opening ++ (busy ++ rest)) .reported) ≡ 2 ∷ 1 ∷ []
-  -- the read sees the write
-  pub given : world (opening ++ (busy ++ rest)) .flat .given 2 ≡ 9
+  -- the write is done
   pub stored-nine : world (opening ++ (busy ++ rest)) .sdram .cells (cellAt 0 0 0) ≡ 9
   -- and the refreshes were made up for
   pub refreshed : refreshes (machine .config) (world (opening ++ (busy ++ rest))) ≡ 15
@@ -131,7 +130,6 @@ closed-run =
       all = refl;
       first = refl;
       last-two = refl;
-      given = refl;
       stored-nine = refl;
       refreshed = refl;
       twelve = refl;
