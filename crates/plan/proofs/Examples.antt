@@ -40,6 +40,7 @@ use Rattle.plan.specs.declared.Action.the-variants.{
   RefreshCycle,
 }
 use Rattle.plan.specs.declared.Control.{Control}
+use Rattle.plan.specs.declared.Report.{Report}
 use Rattle.plan.specs.Actions.{isIdle, inService, underWay, firstAction}
 use Rattle.plan.specs.Plan.{
   Plan,
@@ -178,6 +179,14 @@ service = refl
 places : map underWay actions ≡ replicate 6 0 ++ 1 ∷ 1 ∷ replicate 4 0
 unfolding actions
 places = refl
+
+-- what each case of a report says
+completions : map completionOf (Report.Nothing ∷ Report.Read 4 5 ∷ Report.Write 6 ∷ [])
+    ≡ nothing
+    ∷ some (record { number = 4; kind = Kind.Read; halfword = some 5 })
+    ∷ some (record { number = 6; kind = Kind.Write; halfword = nothing })
+    ∷ []
+completions = refl
 
 -- the configurations of E1 and E4
 abbrev tight : Config
