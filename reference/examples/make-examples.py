@@ -350,6 +350,83 @@ def tight_distances():
     run.store("tight-distances", 1014)
 
 
+def unlike_distances():
+    """No two distances are equal, nor to CL 3: tRFC 13, tRP 4, tRCD 2, tWR 8, tRAS 6, tRC 11, tRRD 5; 2 banks, 10 column bits. M 8, A 35,
+    F 25: least RR 185. 1480 slots NOP; DEAC; tRP to the first REFR; tRFC to the next and to MRS; one NOP. Expiries 1775, 1960, ..."""
+    run = Run("0x4612 4 185 0x63175A40")
+    run.call(1, "config 0x4612 4 184 0x63175A40", "config 3")
+    run.call(1, "config 0x4612 4 185 0x63175A40", "config 0")
+    run.at(1481, "DEAC")
+    for slot in range(1485, 1576 + 1, 13):
+        run.at(slot, "REFR")
+    run.at(1589, "MRS 48")
+    run.write(1, "0", 31)               # bank 0, row 0
+    run.write(1, "0x1000", 32)          # bank 0, row 1
+    run.write(1, "0x800", 33)           # bank 1, row 0
+    run.at(1591, "ACT 0 0")
+    run.written(1593, 1, 0, 0, 31)      # tRCD
+    run.at(1601, "PRE 0")               # tWR
+    run.at(1605, "ACT 0 1")             # tRP
+    run.written(1607, 2, 0, 0, 32)
+    run.at(1610, "ACT 1 0")             # tRRD
+    run.written(1612, 3, 1, 0, 33)
+    run.read(1640, "0")                 # bank 0, row 0: another row, read and left at once
+    run.at(1640, "PRE 0")
+    run.at(1644, "ACT 0 0")
+    run.at(1646, "READ 0 0")
+    run.data(1649, 4, 31)               # CL
+    run.read(1649, "0x1000")            # waits for the machine, which is free at 1651
+    run.at(1651, "PRE 0")
+    run.at(1655, "ACT 0 1")             # tRP, and tRC kept
+    run.at(1657, "READ 0 0")
+    run.data(1660, 5, 32)
+    run.store("unlike-distances", 1670)
+
+
+def geometries():
+    """Each of the 60 geometries on E1's distances, with CL 2 and RR 27, or CL 3 and RR 28 (A is one more): the device's last halfword and the
+    one that is all but the lowest bits, by the map and by a machine that writes the first and reads the second."""
+    pairs = []
+    for columns in range(8, 11 + 1):
+        for banks in range(0, 2 + 1):
+            for rows in range(9, 13 + 1):
+                latency = 2 + (columns + banks + rows) % 2
+                cfg = "0x%X" % (0x4000 | latency << 9 | banks << 4 | columns - 8)
+                row = "%d" % (rows - 9)
+                rr = 25 + latency
+                capacity = 2 ** (1 + columns + banks + rows)
+                # The last cell, and the one before it in every part that has more than one.
+                last = (2 ** banks - 1, 2 ** rows - 1, 2 ** columns - 1)
+                other = (max(last[0] - 1, 0), last[1] - 1, last[2] - 1)
+                places = [((r * 2 ** banks + b) * 2 ** columns + c) * 2 for b, r, c in (last, other)]
+                for cell, address in zip((last, other), places):
+                    pairs += [("cell %s %s %d" % (cfg, row, address), "cell 0 %d %d %d" % cell),
+                              ("address %s %s %d %d %d" % ((cfg, row) + cell), "address 0 %d" % address)]
+                pairs += [("cell %s %s %d" % (cfg, row, capacity), "cell 5 0 0 0"),
+                          ("address %s %s %d 0 0" % (cfg, row, 2 ** banks), "address 10 0"),
+                          ("address %s %s 0 %d 0" % (cfg, row, 2 ** rows), "address 10 0"),
+                          ("address %s %s 0 0 %d" % (cfg, row, 2 ** columns), "address 10 0")]
+                pairs += [("config %s %s %d 0" % (cfg, row, rr - 1), "config 3"),
+                          ("config %s %s %d 0" % (cfg, row, rr), "config 0"),
+                          ("read %d" % capacity, "read 5 0"), ("write %d 1" % places[0], "write 0 1")]
+                commands = {8 * rr + 1: "DEAC", 8 * rr + 10: "MRS %d" % (16 * latency)}
+                commands.update((slot, "REFR") for slot in range(8 * rr + 2, 8 * rr + 9 + 1))
+                first = 8 * rr + 12     # the first service slot
+                commands[first] = "ACT %d %d" % last[:2]
+                commands[first + 1] = "WRT %d %d 1 write 1" % (last[0], last[2])
+                for slot in range(1, first + 2):
+                    line = commands.get(slot, "NOP")
+                    pairs.append(("slot %d" % slot, "slot 0 " + line + ("" if "write" in line else " -")))
+                # The read finds its bank closed, or with one bank another row open.
+                pairs.append(("read %d" % places[1], "read 0 2"))
+                lines = ["PRE %d -" % other[0]] if banks == 0 else []
+                lines += ["ACT %d %d -" % other[:2], "READ %d %d -" % (other[0], other[2])] + ["NOP -"] * (latency - 1)
+                pairs += [("slot 7", "slot 0 " + line) for line in lines]
+                halfword = first_contents(*other)
+                pairs += [("slot %d" % halfword, "slot 0 NOP read 2 %d" % halfword), ("slot 7", "slot 0 NOP -"), ("backlog", "backlog 0 0")]
+    dialogue("geometries", pairs)
+
+
 def numbers():
     pairs = [
         # The blank machine, before any other number.
@@ -451,5 +528,5 @@ def last_number():
 if __name__ == "__main__":
     e1_to_e4()
     for example in (e5, e6, e7, e8, e9, e10, e11, e12, must_run, must_only_at_a_choice, need_with_blocked_read,
-                    write_before_release, oldest_read_first, tight_distances, numbers, form, last_number):
+                    write_before_release, oldest_read_first, tight_distances, unlike_distances, geometries, numbers, form, last_number):
         example()

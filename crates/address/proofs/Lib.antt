@@ -1,2 +1,3 @@
--- Laws of the address map that callers use in place of its text.
+-- Laws of the address map that callers use in place of its text, and worked examples.
 pub mod Laws
+pub mod Examples

@@ -1,12 +1,14 @@
 -- The line that is written for an answer (REPLAY.md, "Output").
 use Prim.Native.Nat.{ℕ}
+use mathlib.Core.Option.{Option, none, some}
 use Rattle.text.specs.declared.Text.{Text}
 use Rattle.text.specs.Spelling.{letters, emptyOf, byteOf, wordOf, decimalOf}
 use Rattle.address.specs.declared.ToCell.{ToCell}
 use Rattle.command.specs.declared.Command.{Command}
 use Rattle.command.specs.declared.Command.the-variants.{Nop, Act, Wrt, Pre, Deac, Refr, Mrs, Read as Fetch}
 use Rattle.plan.specs.declared.Report.{Report}
-use Rattle.plan.specs.declared.Report.the-variants.{Nothing, Read as ReadDone, Write as WriteDone}
+use Rattle.plan.specs.Completion.{Completion, completionOf}
+use Rattle.queue.specs.declared.Kind.{Kind}
 use Rattle.answer.specs.declared.Answer.{Answer}
 use Rattle.answer.specs.declared.Answer.the-variants.{
   Config,
@@ -43,10 +45,21 @@ commandOf t Refr = andWord t (letters "REFR")
 commandOf t (Mrs w) = andOne t (letters "MRS") w
 
 -- REPORT
+
+abbrev pub kindWord : Kind → ℕ
+kindWord Kind.Read = letters "read"
+kindWord Kind.Write = letters "write"
+
+abbrev pub andHalfword : Text → Option ℕ → Text
+andHalfword t none = t
+andHalfword t (some h) = andNumber t h
+
+abbrev pub completionText : Text → Option Completion → Text
+completionText t none = byteOf (byteOf t 32) 45
+completionText t (some x) = andHalfword (andOne t (kindWord (x .kind)) (x .number)) (x .halfword)
+
 unfoldable pub reportOf : Text → Report → Text
-reportOf t Nothing = byteOf (byteOf t 32) 45
-reportOf t (ReadDone n h) = andTwo t (letters "read") n h
-reportOf t (WriteDone n) = andOne t (letters "write") n
+reportOf t r = completionText t (completionOf r)
 
 -- the beginning of a line: the call's word and a number
 unfoldable pub begunOf : ℕ → ℕ → Text

@@ -2,13 +2,14 @@
 use Prim.Native.Nat.{ℕ, zero, suc}
 use mathlib.Core.Bool.{Bool, true, false, cond, _&&_, not}
 use mathlib.Core.List.{List, [], _∷_, _++_}
+use mathlib.Core.Option.{Option, none, some}
 use lib.Dec.{leb}
 use Rattle.command.specs.declared.Command.{Command}
 use Rattle.command.specs.declared.Command.the-variants.{Nop, Act, Read, Wrt, Pre, Deac, Refr, Mrs}
 use Rattle.device.specs.View.{allClosed}
 use Rattle.ages.specs.Ages.{rowAt}
 use Rattle.refresh.specs.declared.Counters.{Counters}
-use Rattle.plan.specs.declared.Report.{Report}
+use Rattle.plan.specs.Completion.{Completion, completionOf}
 use Rattle.plan.specs.Actions.{isIdle, inService}
 use Rattle.plan.specs.Choice.{currentOf}
 use Rattle.plan.specs.Slot.{tickedOf}
@@ -20,8 +21,8 @@ use Rattle.model.specs.World.{Call, read, write, slot, backlog}
 pub data Event : Type 0 where
   -- a slot carries this command
   sent : ℕ → Command → Event
-  -- a slot has this report
-  told : ℕ → Report → Event
+  -- a slot reports this
+  told : ℕ → Completion → Event
   -- the first slot in which a choice can be made again
   free : ℕ → Event
 
@@ -35,10 +36,9 @@ sentIn s Deac = sent s Deac ∷ []
 sentIn s Refr = sent s Refr ∷ []
 sentIn s (Mrs w) = sent s (Mrs w) ∷ []
 
-abbrev pub toldIn : ℕ → Report → List Event
-toldIn s Report.Nothing = []
-toldIn s (Report.Read n h) = told s (Report.Read n h) ∷ []
-toldIn s (Report.Write n) = told s (Report.Write n) ∷ []
+abbrev pub toldIn : ℕ → Option Completion → List Event
+toldIn s none = []
+toldIn s (some x) = told s x ∷ []
 
 abbrev pub freeIn : ℕ → Bool → List Event
 freeIn s true = free s ∷ []
@@ -56,7 +56,7 @@ watched zero s from was bus m = []
 watched (suc n) s from was bus m =
     let now : Slot = slotOf m bus in
     let later : List Event = watched n (suc s) from (occupied m) bus (now .machine) in
-    cond (leb from s) (freeIn s (was && isIdle (m .control .action)) ++ (sentIn s (now .command) ++ (toldIn s (now .report) ++ later))) later
+    cond (leb from s) (freeIn s (was && isIdle (m .control .action)) ++ (sentIn s (now .command) ++ (toldIn s (completionOf (now .report)) ++ later))) later
 
 -- the machine after the requests of a list; its other calls do not count here
 unfoldable pub requested : Machine → List Call → Machine
@@ -70,7 +70,5 @@ requested m (backlog ∷ ks) = requested m ks
 abbrev pub numbersOf : List Event → List ℕ
 numbersOf [] = []
 numbersOf (sent s k ∷ l) = numbersOf l
-numbersOf (told s Report.Nothing ∷ l) = numbersOf l
-numbersOf (told s (Report.Read n h) ∷ l) = n ∷ numbersOf l
-numbersOf (told s (Report.Write n) ∷ l) = n ∷ numbersOf l
+numbersOf (told s x ∷ l) = x .number ∷ numbersOf l
 numbersOf (free s ∷ l) = numbersOf l

@@ -1,4 +1,5 @@
--- Document 01's marked examples: what is asked, what the definitions answer, and what the paper says.
+-- Document 01's marked examples, and some of our own where the paper's figures leave two things alike: what is asked, what the definitions
+-- answer, and what is said.
 use Prim.Native.Nat.{ℕ}
 use mathlib.Core.Bool.{false}
 use mathlib.Core.List.{List, [], _∷_}
@@ -9,7 +10,7 @@ use Rattle.address.specs.declared.ToCell.{ToCell}
 use Rattle.address.specs.Standalone.{toCellOf}
 use Rattle.command.specs.declared.Command.{Command}
 use Rattle.command.specs.declared.Command.the-variants.{Act, Read, Wrt, Pre, Deac, Refr, Mrs}
-use Rattle.plan.specs.declared.Report.{Report}
+use Rattle.plan.specs.Completion.{readDone, writeDone}
 use Rattle.sequencer.specs.Calls.{configureOf}
 use Rattle.model.specs.World.{Call, read, write}
 use Rattle.examples.specs.Run.{Event, sent, told, free, watched, requested, numbersOf}
@@ -84,27 +85,41 @@ table =
     ∷ row (words 0x4620 4 136 0x42215810) (spans 0 28 18)
     ∷ row (words 0x4620 4 135 0x42215810) (spans 3 0 0)
     ∷ row (distances 0x4620 4 136 0x42215810) (numbers (9 ∷ 3 ∷ 3 ∷ 2 ∷ 6 ∷ 9 ∷ 2 ∷ []))
+    -- not the paper's: no two distances alike, none equal to CL, tWR above tRAS
+    ∷ row (words 0x4612 4 185 0x63175a40) (spans 0 35 25)
+    ∷ row (words 0x4612 4 184 0x63175a40) (spans 3 0 0)
+    ∷ row (distances 0x4612 4 185 0x63175a40) (numbers (13 ∷ 4 ∷ 2 ∷ 8 ∷ 6 ∷ 11 ∷ 5 ∷ []))
     -- E5
     ∷ row (bus 0x4400 0 27 0 (write 0 9 ∷ read 0 ∷ []) 234 1)
     (events
     (sent 217 Deac ∷ sent 218 Refr ∷ sent 219 Refr ∷ sent 220 Refr ∷ sent 221 Refr ∷ sent 222 Refr ∷ sent 223 Refr ∷ sent 224 Refr ∷ sent 225 Refr ∷ sent 226 (Mrs 32)
-    ∷ sent 228 (ACT 0 0) ∷ sent 229 (WRT 0 0 9) ∷ told 229 (Report.Write 1) ∷ free 230 ∷ sent 230 (READ 0 0) ∷ told 232 (Report.Read 2 7) ∷ free 234 ∷ []))
+    ∷ sent 228 (ACT 0 0) ∷ sent 229 (WRT 0 0 9) ∷ told 229 (writeDone 1) ∷ free 230 ∷ sent 230 (READ 0 0) ∷ told 232 (readDone 2 7) ∷ free 234 ∷ []))
     -- E6
     ∷ row (bus 0x4400 0 27 0 (write 0 9 ∷ read 0 ∷ []) 362 235)
     (events (sent 335 Deac ∷ sent 336 Refr ∷ free 337 ∷ sent 337 Deac ∷ sent 338 Refr ∷ free 339 ∷ sent 339 Deac ∷ sent 340 Refr ∷ free 341 ∷ sent 341 Deac ∷ sent 342 Refr ∷ free 343 ∷ sent 362 Deac ∷ []))
     -- E7, with s = 1166, the first service slot of E4's machine
     ∷ row (bus 0x4620 4 136 0x42215810 (write 0 1 ∷ write 0x800 2 ∷ []) 1178 1166)
     (events
-    (sent 1166 (ACT 0 0) ∷ sent 1169 (WRT 0 0 1) ∷ told 1169 (Report.Write 1) ∷ free 1170
-    ∷ sent 1172 (PRE 0) ∷ sent 1175 (ACT 0 1) ∷ sent 1178 (WRT 0 0 2) ∷ told 1178 (Report.Write 2) ∷ []))
+    (sent 1166 (ACT 0 0) ∷ sent 1169 (WRT 0 0 1) ∷ told 1169 (writeDone 1) ∷ free 1170
+    ∷ sent 1172 (PRE 0) ∷ sent 1175 (ACT 0 1) ∷ sent 1178 (WRT 0 0 2) ∷ told 1178 (writeDone 2) ∷ []))
     -- E8
     ∷ row (bus 0x4620 4 136 0x42215810 (write 0 1 ∷ write 0x200 2 ∷ []) 1173 1166)
     (events
-    (sent 1166 (ACT 0 0) ∷ sent 1169 (WRT 0 0 1) ∷ told 1169 (Report.Write 1) ∷ free 1170
-    ∷ sent 1170 (ACT 1 0) ∷ sent 1173 (WRT 1 0 2) ∷ told 1173 (Report.Write 2) ∷ []))
+    (sent 1166 (ACT 0 0) ∷ sent 1169 (WRT 0 0 1) ∷ told 1169 (writeDone 1) ∷ free 1170
+    ∷ sent 1170 (ACT 1 0) ∷ sent 1173 (WRT 1 0 2) ∷ told 1173 (writeDone 2) ∷ []))
     -- E9
     ∷ row (bus 0x4620 4 136 0x42215810 (read 0 ∷ []) 1174 1166)
-    (events (sent 1166 (ACT 0 0) ∷ sent 1169 (READ 0 0) ∷ told 1172 (Report.Read 1 7) ∷ free 1174 ∷ []))
+    (events (sent 1166 (ACT 0 0) ∷ sent 1169 (READ 0 0) ∷ told 1172 (readDone 1 7) ∷ free 1174 ∷ []))
+    -- not the paper's: E7 and E8 in one, on the machine whose distances differ; its first service slot is 1591
+    ∷ row (bus 0x4612 4 185 0x63175a40 (write 0 1 ∷ write 0x1000 2 ∷ write 0x800 3 ∷ []) 1613 1)
+    (events
+    (sent 1481 Deac ∷ sent 1485 Refr ∷ sent 1498 Refr ∷ sent 1511 Refr ∷ sent 1524 Refr ∷ sent 1537 Refr ∷ sent 1550 Refr ∷ sent 1563 Refr ∷ sent 1576 Refr ∷ sent 1589 (Mrs 48)
+    ∷ sent 1591 (ACT 0 0) ∷ sent 1593 (WRT 0 0 1) ∷ told 1593 (writeDone 1) ∷ free 1594
+    ∷ sent 1601 (PRE 0) ∷ sent 1605 (ACT 0 1) ∷ sent 1607 (WRT 0 0 2) ∷ told 1607 (writeDone 2) ∷ free 1608
+    ∷ sent 1610 (ACT 1 0) ∷ sent 1612 (WRT 1 0 3) ∷ told 1612 (writeDone 3) ∷ free 1613 ∷ []))
+    -- and E9
+    ∷ row (bus 0x4612 4 185 0x63175a40 (read 0x800 ∷ []) 1598 1591)
+    (events (sent 1591 (ACT 1 0) ∷ sent 1593 (READ 1 0) ∷ told 1596 (readDone 1 7) ∷ free 1598 ∷ []))
     -- E10, on E4's machine (document 01 names none): read 0x800, write 0, read 0
     ∷ row (order 0x4620 4 136 0x42215810 (write 0 1 ∷ read 0 ∷ read 0x800 ∷ []) 1226) (numbers (3 ∷ 1 ∷ 2 ∷ []))
     -- E11, on E4's machine too: the read waits

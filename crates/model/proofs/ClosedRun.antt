@@ -1,26 +1,33 @@
--- A closed list of calls, computed: the third condition is not about an empty set of runs. It has refusals, a Must run, a read that sees a
--- write, and a read that is served before an older write.
-use Prim.Native.Nat.{ℕ, zero, suc}
+-- Closed lists of calls, computed: the third condition is not about an empty set of runs, and a claim that says something else is refuted by a
+-- figure. The first has refusals, a Must run, and a read that is served before an older write; the second a read, a write and a read of one
+-- address.
+use Prim.Native.Nat.{ℕ, zero, suc, _+_, _-_}
 use mathlib.Core.Path.{_≡_, refl}
-use mathlib.Core.Bool.{true}
-use mathlib.Core.List.{List, [], _∷_, _++_}
+use mathlib.Core.Logic.{⊎-elim}
+use mathlib.Core.Bool.{Bool, true, _&&_, not}
+use mathlib.Core.List.{List, [], _∷_, _++_, map, List·Memᴰ, List·Memᴰ·not-nil, List·Memᴰ·cases-cons}
+use mathlib.Core.Option.{some}
+use lib.Dec.{eqb}
 use lib.ListN.{length, take, drop}
+use borrow.Author.Tests.{leb-true, eqb-false, not-true}
 use Rattle.words.specs.Words.{reservedMap, reservedAll}
 use Rattle.config.specs.Setting.{offeredOf, geometryOf, configOf, checkedOf, settingOf}
 use Rattle.address.specs.Map.{capacityOf, addressNumberOf, cellOf, holdsOf, cellAt}
 use Rattle.device.specs.View.{allClosed, marksOf, rowOf}
+use Rattle.device.proofs.Tests.{both}
 use Rattle.device.specs.Rules.{R7, R12-open, R13-open, R14, requirements, legalOf, carriedOf}
 use Rattle.device.specs.History.{last, openRow, startLog, fed}
 use Rattle.ages.specs.Ages.{freshOf, openedOf, rowIn, rowAt, agedOf, agesAfter, sentOf}
 use Rattle.queue.specs.Places.{without, emptyOf, acceptOf, removeOf, getOf}
 use Rattle.queue.specs.Oldest.{blockedOf, readyOf, oldestOf}
 use Rattle.queue.specs.Sound.{soundQueue}
-use Rattle.refresh.specs.Counting.{startOf, tickOf, refreshedOf, soundCounters}
+use Rattle.refresh.specs.Counting.{startOf, tickOf, refreshedOf, expiriesOf, soundCounters}
 use Rattle.refresh.specs.Urgency.{levelOf}
 use Rattle.plan.specs.Actions.{soundAction}
 use Rattle.plan.specs.Plan as plan
 use Rattle.plan.specs.Choice.{rulesOf, choiceOf, currentOf}
 use Rattle.plan.specs.Slot.{tickedOf, turnOf}
+use Rattle.plan.specs.Completion.{readDone, writeDone, completionOf}
 use Rattle.sequencer.specs.declared.Machine.{Machine}
 use Rattle.sequencer.specs.Machine.{blankOf, machineOf, stepOf}
 use Rattle.numbers.specs.Sound.{fitBy, soundBy}
@@ -37,7 +44,7 @@ use Rattle.sequencer.specs.Calls.{
 }
 use Rattle.model.specs.Sdram.{stored, startSdram, cellsAfter, drivenAfter, takes, sdramAfter}
 use Rattle.model.specs.Flat.{startFlat, taken, flatAfter}
-use Rattle.model.specs.Condition.{firstService, refreshes}
+use Rattle.model.specs.Condition.{firstService, expiries, refreshes, InBounds, Reports}
 use Rattle.model.specs.World.{World, Call, read, write, slot, startWorld, busOf, slotIn, afterSlot, afterRequest, after, played}
 
 -- a list n times
@@ -64,6 +71,25 @@ busy = times 82 (read 0x800 ∷ times 4 (slot 0 ∷ []))
 pub rest : List Call
 rest = times 90 (slot 0 ∷ [])
 
+-- the same reads up to slot 550: in slot 551 the twelfth interval expires
+pub brim : World
+brim = world (opening ++ (times 80 (read 0x800 ∷ times 4 (slot 0 ∷ [])) ++ read 0x800 ∷ times 3 (slot 0 ∷ [])))
+
+-- a read of address 2, a write of it and a read of it, all accepted before slot 1, after so many slots
+pub chain : ℕ → World
+chain n = world (read 2 ∷ write 2 9 ∷ read 2 ∷ times n (slot 0 ∷ []))
+
+-- is a number not among these?
+abbrev absent : ℕ → List ℕ → Bool
+absent n [] = true
+absent n (x ∷ l) = not (eqb n x) && absent n l
+
+absent-not : (n : ℕ) (l : List ℕ) → absent n l ≡ true → List·Memᴰ n l → ⊥
+absent-not n [] e m = List·Memᴰ·not-nil m
+absent-not n (x ∷ l) e m =
+    let h = both (not (eqb n x)) (absent n l) e in
+    ⊎-elim (eqb-false n x (not-true (eqb n x) (h .0))) (absent-not n l (h .1)) (List·Memᴰ·cases-cons m)
+
 pub record ClosedRun : Type 0 where
   pub odd : readRequestOf machine 1 .number ≡ 4
   pub beyond : readRequestOf machine 0x40000 .number ≡ 5
@@ -74,14 +100,27 @@ pub record ClosedRun : Type 0 where
   pub all : length (world (opening ++ (busy ++ rest)) .reported) ≡ 85
   pub first : drop 84 (world (opening ++ (busy ++ rest)) .reported) ≡ 3 ∷ []
   pub last-two : take 2 (world (opening ++ (busy ++ rest)) .reported) ≡ 2 ∷ 1 ∷ []
-  -- the read sees the write
-  pub given : world (opening ++ (busy ++ rest)) .flat .given 2 ≡ 9
+  -- the write is done
   pub stored-nine : world (opening ++ (busy ++ rest)) .sdram .cells (cellAt 0 0 0) ≡ 9
   -- and the refreshes were made up for
   pub refreshed : refreshes (machine .config) (world (opening ++ (busy ++ rest))) ≡ 15
+  -- slot 551 sees a backlog of 12, which is in the bounds that are claimed
+  pub twelve : expiries (machine .config) (brim .sdram .log .now + 1) - refreshes (machine .config) brim ≡ 12
+  pub within : InBounds (expiries (machine .config) (brim .sdram .log .now + 1) - refreshes (machine .config) brim)
+  -- the first read's halfword is what the address held before the write, though the write was accepted before its report; the last read's is
+  -- the write's; and these reports are as claimed
+  pub told :
+      map (λ w. completionOf (slotIn w 0 .report)) (chain 230 ∷ chain 232 ∷ chain 235 ∷ [])
+      ≡ some (readDone 1 5) ∷ some (writeDone 2) ∷ some (readDone 3 9) ∷ []
+  pub read-reported : Reports (chain 230) (slotIn (chain 230) 0 .report)
+  pub reread-reported : Reports (chain 235) (slotIn (chain 235) 0 .report)
+  -- each request was reported once, and both memories have the write's halfword, in column 1
+  pub once : chain 236 .reported ≡ 3 ∷ 2 ∷ 1 ∷ []
+  pub flat-nine : chain 236 .flat .contents 2 ≡ 9
+  pub cells-nine : chain 236 .sdram .cells (cellAt 0 0 1) ≡ 9
 
 pub closed-run : ClosedRun
-unfolding firstService times machine world opening busy rest settingOf reservedAll reservedMap offeredOf checkedOf configOf geometryOf addressNumberOf capacityOf cellOf holdsOf allClosed marksOf rowOf R7 R12-open R13-open R14 requirements legalOf last openRow startLog fed freshOf openedOf rowIn rowAt agedOf agesAfter sentOf carriedOf without emptyOf acceptOf removeOf getOf blockedOf readyOf oldestOf soundQueue startOf tickOf refreshedOf soundCounters levelOf soundAction plan.quietly plan.outcomeOf plan.tries plan.rest plan.afterPause plan.afterInitRefresh plan.readPlan plan.writePlan plan.transferPlan plan.accessPlan plan.takenPlan plan.latencyPlan plan.cycleLeft plan.refreshPlan plan.planOf plan.queueAfter plan.countersAfter rulesOf choiceOf currentOf tickedOf turnOf blankOf machineOf stepOf fitBy soundBy configAccepted shapedOf distancesOf spannedOf configuredBy configureOf recordNumberBy roomNumberOf requestNumberBy queuedRequest enqueuedOf requestOf slotOf stored startSdram cellsAfter drivenAfter takes sdramAfter startFlat taken flatAfter startWorld busOf slotIn afterSlot afterRequest after played
+unfolding firstService expiriesOf times machine world opening busy rest brim chain settingOf reservedAll reservedMap offeredOf checkedOf configOf geometryOf addressNumberOf capacityOf cellOf holdsOf allClosed marksOf rowOf R7 R12-open R13-open R14 requirements legalOf last openRow startLog fed freshOf openedOf rowIn rowAt agedOf agesAfter sentOf carriedOf without emptyOf acceptOf removeOf getOf blockedOf readyOf oldestOf soundQueue startOf tickOf refreshedOf soundCounters levelOf soundAction plan.quietly plan.outcomeOf plan.tries plan.rest plan.afterPause plan.afterInitRefresh plan.readPlan plan.writePlan plan.transferPlan plan.accessPlan plan.takenPlan plan.latencyPlan plan.cycleLeft plan.refreshPlan plan.planOf plan.queueAfter plan.countersAfter rulesOf choiceOf currentOf tickedOf turnOf blankOf machineOf stepOf fitBy soundBy configAccepted shapedOf distancesOf spannedOf configuredBy configureOf recordNumberBy roomNumberOf requestNumberBy queuedRequest enqueuedOf requestOf slotOf stored startSdram cellsAfter drivenAfter takes sdramAfter startFlat taken flatAfter startWorld busOf slotIn afterSlot afterRequest after played
 closed-run =
     record {
       odd = refl;
@@ -91,7 +130,14 @@ closed-run =
       all = refl;
       first = refl;
       last-two = refl;
-      given = refl;
       stored-nine = refl;
       refreshed = refl;
+      twelve = refl;
+      within = leb-true _ _ refl;
+      told = refl;
+      read-reported = (record { least = leb-true _ _ refl; accepted = leb-true _ _ refl; new = absent-not _ _ refl; of-kind = refl }, refl);
+      reread-reported = (record { least = leb-true _ _ refl; accepted = leb-true _ _ refl; new = absent-not _ _ refl; of-kind = refl }, refl);
+      once = refl;
+      flat-nine = refl;
+      cells-nine = refl;
     }

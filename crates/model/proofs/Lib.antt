@@ -10,3 +10,4 @@ pub mod Standing
 pub mod Requests
 pub mod Third
 pub mod ClosedRun
+pub mod ClosedSdram

@@ -5,6 +5,7 @@ use Prim.Native.Nat.{ℕ, _+_, _-_, _*_, _%_, _^_, _≤_, _<_}
 use mathlib.Core.Path.{_≡_}
 use mathlib.Core.Bool.{Bool, true, cond, _&&_}
 use mathlib.Core.List.{List, [], _∷_, List·Memᴰ}
+use mathlib.Core.Option.{Option, none, some}
 use lib.Dec.{eqb, leb}
 use lib.ListN.{length}
 use Rattle.config.specs.declared.Config.{Config}
@@ -18,6 +19,7 @@ use Rattle.ages.specs.Ages.{byAges, rowAt}
 use Rattle.queue.specs.declared.Kind.{Kind}
 use Rattle.refresh.specs.Counting.{expiriesOf, tickOf}
 use Rattle.plan.specs.declared.Report.{Report}
+use Rattle.plan.specs.Completion.{Completion, completionOf}
 use Rattle.plan.specs.Actions.{inService}
 use Rattle.sequencer.specs.declared.Reading.{Reading}
 use Rattle.sequencer.specs.declared.Requested.{Requested}
@@ -57,6 +59,10 @@ refreshes c w = serviceRefreshes c (w .sdram .log .past)
 abbrev pub backlogIn : Config → World → ℕ
 backlogIn c w = expiries c (w .sdram .log .now) - refreshes c w
 
+-- it is from 0 to 13
+abbrev pub InBounds : ℕ → Type 0
+InBounds b = b ≤ 13
+
 -- Reports.
 
 -- every request accepted so far has been reported: its number occurs among the reported ones
@@ -70,11 +76,17 @@ pub record Named (w : World) (kind : Kind) (n : ℕ) : Type 0 where
   pub new : List·Memᴰ n (w .reported) → ⊥
   pub of-kind : w .flat .kinds n ≡ kind
 
--- and that of a read carries the halfword that the flat memory gave
+-- and the halfword that it carries, if it is a read's, is the one that the flat memory gave
+abbrev pub Given : Option ℕ → ℕ → Type 0
+Given none given = Unit {0}
+Given (some h) given = h ≡ given
+
+abbrev pub Completes : World → Option Completion → Type 0
+Completes w none = Unit {0}
+Completes w (some x) = Named w (x .kind) (x .number) × Given (x .halfword) (w .flat .given (x .number))
+
 abbrev pub Reports : World → Report → Type 0
-Reports w Report.Nothing = Unit {0}
-Reports w (Report.Read n h) = Named w Kind.Read n × (h ≡ w .flat .given n)
-Reports w (Report.Write n) = Named w Kind.Write n
+Reports w r = Completes w (completionOf r)
 
 -- Before every call, and after the last.
 pub record Standing (c : Config) (w : World) : Type 0 where
@@ -87,9 +99,9 @@ pub record Standing (c : Config) (w : World) : Type 0 where
   pub closed : allClosed (rowAt (w .machine .past)) ≡ allClosed (openRow (w .sdram .log .past))
   -- service begins with the first service slot
   pub service : inService (w .machine .control .action) ≡ leb (firstService c) (w .sdram .log .now)
-  -- no more REFRs than expiries; the backlog is from 0 to 13
+  -- no more REFRs than expiries; the backlog is in its bounds
   pub owed : refreshes c w ≤ expiries c (w .sdram .log .now)
-  pub backlog : backlogIn c w ≤ 13
+  pub backlog : InBounds (backlogIn c w)
   -- every request that is accepted and not yet reported is queued
   pub waiting : w .machine .queue .count + length (w .reported) ≡ w .flat .count
   -- when all is reported, each address has the halfword that is in its cell
@@ -115,9 +127,9 @@ pub record Carried (c : Config) (w : World) (s : Slot) : Type 0 where
   -- the SDRAM takes the command
   pub taken : takes c (w .sdram) (s .command) ≡ true
   pub reports : Reports w (s .report)
-  -- within the slot, before its own REFR is counted: the backlog that a service slot's choice sees, from 0 to 13
+  -- within the slot, before its own REFR is counted: the backlog that a service slot's choice sees
   pub owed : refreshes c w ≤ expiries c (w .sdram .log .now + 1)
-  pub within : expiries c (w .sdram .log .now + 1) - refreshes c w ≤ 13
+  pub within : InBounds (expiries c (w .sdram .log .now + 1) - refreshes c w)
   pub counted : inService (w .machine .control .action) ≡ true → tickOf (w .machine .counters) (c .rr) .backlog ≡ expiries c (w .sdram .log .now + 1) - refreshes c w
 
 -- The reading call gives exactly the backlog.

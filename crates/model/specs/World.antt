@@ -5,6 +5,7 @@ use mathlib.Core.Option.{Option, none, some}
 use Rattle.config.specs.declared.Config.{Config}
 use Rattle.queue.specs.declared.Kind.{Kind}
 use Rattle.plan.specs.declared.Report.{Report}
+use Rattle.plan.specs.Completion.{Completion, completionOf}
 use Rattle.sequencer.specs.declared.Machine.{Machine}
 use Rattle.sequencer.specs.declared.Requested.{Requested}
 use Rattle.sequencer.specs.declared.Slot.{Slot}
@@ -44,10 +45,13 @@ busOr (some h) any = h
 unfoldable pub busOf : World → ℕ → ℕ
 busOf w any = busOr (drivenIn (w .sdram .log .now) (w .sdram .driven)) any
 
+-- the numbers reported, after a slot's report
+abbrev pub numbered : Option Completion → List ℕ → List ℕ
+numbered none l = l
+numbered (some x) l = x .number ∷ l
+
 abbrev pub reportedAfter : Report → List ℕ → List ℕ
-reportedAfter Report.Nothing l = l
-reportedAfter (Report.Read n h) l = n ∷ l
-reportedAfter (Report.Write n) l = n ∷ l
+reportedAfter r l = numbered (completionOf r) l
 
 -- what the next slot gives
 unfoldable pub slotIn : World → ℕ → Slot

@@ -1,2 +1,3 @@
--- What the numbers show of a record.
+-- What the numbers show of a record, and worked examples.
 pub mod Laws
+pub mod Examples

@@ -4,6 +4,7 @@ use Prim.Native.Nat.{ℕ, zero, suc, _-_}
 use mathlib.Core.Path.{_≡_, refl}
 use mathlib.Core.Bool.{Bool, true, false, cond}
 use mathlib.Core.List.{List, [], _∷_, _++_, map}
+use mathlib.Core.Option.{Option, some, none as nothing}
 use lib.ListN.{length, replicate}
 use Rattle.config.specs.declared.Config.{Config}
 use Rattle.config.specs.Setting.{geometryOf, configOf}
@@ -63,6 +64,7 @@ use Rattle.plan.specs.Plan.{
 }
 use Rattle.plan.specs.Choice.{Choice, rulesOf, choiceOf, currentOf}
 use Rattle.plan.specs.Slot.{Turn, tickedOf, turnOf}
+use Rattle.plan.specs.Completion.{Completion, readDone, writeDone, completionOf}
 
 -- a choice: was a Must run on, the backlog, the oldest unblocked read and write, are all banks closed; and what is chosen
 record Row : Type 0 where
@@ -178,6 +180,14 @@ places : map underWay actions ≡ replicate 6 0 ++ 1 ∷ 1 ∷ replicate 4 0
 unfolding actions
 places = refl
 
+-- what each case of a report says
+completions : map completionOf (Report.Nothing ∷ Report.Read 4 5 ∷ Report.Write 6 ∷ [])
+    ≡ nothing
+    ∷ some (record { number = 4; kind = Kind.Read; halfword = some 5 })
+    ∷ some (record { number = 6; kind = Kind.Write; halfword = nothing })
+    ∷ []
+completions = refl
+
 -- the configurations of E1 and E4
 abbrev tight : Config
 tight = configOf 0x4400 0 27 0
@@ -185,15 +195,19 @@ tight = configOf 0x4400 0 27 0
 abbrev wide : Config
 wide = configOf 0x4620 4 136 0x42215810
 
+-- no two distances alike: tRFC 13, tRP 4, tRCD 2, tWR 8, tRAS 6, tRC 11, tRRD 5, and CL 3
+abbrev unlike : Config
+unlike = configOf 0x4612 4 185 0x63175a40
+
 -- a slot of an action: its command and report, then the action, the backlog and the numbers of the queued requests
 record Line : Type 0 where
   command : Command
-  report : Report
+  report : Option Completion
   next : Action
   backlog : ℕ
   queued : List ℕ
 
-abbrev line : Command → Report → Action → ℕ → List ℕ → Line
+abbrev line : Command → Option Completion → Action → ℕ → List ℕ → Line
 line k r a b ns = record { command = k; report = r; next = a; backlog = b; queued = ns }
 
 -- an action on a machine, after the commands `before`, with a backlog of 5, and what its slots do; the bus carries 100, 101, ..
@@ -225,7 +239,7 @@ pre b = Pre (record { 0 = b })
 
 -- a slot that reports nothing, with the backlog at 5
 still : Command → Action → List ℕ → Line
-still k a ns = line k Report.Nothing a 5 ns
+still k a ns = line k nothing a 5 ns
 
 -- initialised; and with row 0 of bank 0 open and written to, as E7 and E8 have it in slot s + 3
 ready : ℕ → List Command
@@ -233,6 +247,10 @@ ready word = Mrs word ∷ Nop ∷ []
 
 opened : List Command
 opened = ready 48 ++ act 0 0 ∷ Nop ∷ Nop ∷ wrt 0 0 ∷ []
+
+-- the same where tRCD is 2
+written : List Command
+written = ready 48 ++ act 0 0 ∷ Nop ∷ wrt 0 0 ∷ []
 
 runs : List Run
 runs =
@@ -244,14 +262,14 @@ runs =
     ∷ still (rd 3 255) (CasLatency 0 3) (41 ∷ [])
     ∷ still Nop (CasLatency 0 2) (41 ∷ [])
     ∷ still Nop (CasLatency 0 1) (41 ∷ [])
-    ∷ line Nop (Report.Read 41 106) Turnaround 5 []
+    ∷ line Nop (some (readDone 41 106)) Turnaround 5 []
     ∷ still Nop Idle []
     ∷ [])
     -- E5: a read whose row is open, between requests that stay
     ∷ run tight (ready 32 ++ act 0 2 ∷ wrt 0 0 ∷ []) (asked Kind.Write 41 0 0 0 ∷ asked Kind.Read 42 0 2 1 ∷ asked Kind.Read 43 0 3 1 ∷ []) (Access 1)
     (still (rd 0 1) (CasLatency 1 2) (41 ∷ 42 ∷ 43 ∷ [])
     ∷ still Nop (CasLatency 1 1) (41 ∷ 42 ∷ 43 ∷ [])
-    ∷ line Nop (Report.Read 42 102) Turnaround 5 (41 ∷ 43 ∷ [])
+    ∷ line Nop (some (readDone 42 102)) Turnaround 5 (41 ∷ 43 ∷ [])
     ∷ still Nop Idle (41 ∷ 43 ∷ [])
     ∷ [])
     -- E7 from s + 4 on: another row of the bank, PRE s + 6, ACT s + 9, WRT s + 12
@@ -264,19 +282,19 @@ runs =
     ∷ still (act 0 1) (Access 0) (42 ∷ [])
     ∷ still Nop (Access 0) (42 ∷ [])
     ∷ still Nop (Access 0) (42 ∷ [])
-    ∷ line (wrt 0 0) (Report.Write 42) Idle 5 []
+    ∷ line (wrt 0 0) (some (writeDone 42)) Idle 5 []
     ∷ [])
     -- E8 from s + 4 on: another bank
     ∷ run wide opened (asked Kind.Write 42 1 0 0 ∷ []) (Access 0)
     (still (act 1 0) (Access 0) (42 ∷ [])
     ∷ still Nop (Access 0) (42 ∷ [])
     ∷ still Nop (Access 0) (42 ∷ [])
-    ∷ line (wrt 1 0) (Report.Write 42) Idle 5 []
+    ∷ line (wrt 1 0) (some (writeDone 42)) Idle 5 []
     ∷ [])
     -- a write whose row is open: its WRT is its only slot
-    ∷ run wide opened (asked Kind.Read 41 2 0 9 ∷ asked Kind.Write 42 0 0 9 ∷ []) (Access 1) (line (wrt 0 9) (Report.Write 42) Idle 5 (41 ∷ []) ∷ [])
+    ∷ run wide opened (asked Kind.Read 41 2 0 9 ∷ asked Kind.Write 42 0 0 9 ∷ []) (Access 1) (line (wrt 0 9) (some (writeDone 42)) Idle 5 (41 ∷ []) ∷ [])
     -- E6: with tRFC 1 a refresh ends in its REFR slot, and has a DEAC though no bank is open
-    ∷ run tight (ready 32) [] PrechargeAll (still Deac Refresh [] ∷ line Refr Report.Nothing Idle 4 [] ∷ [])
+    ∷ run tight (ready 32) [] PrechargeAll (still Deac Refresh [] ∷ line Refr nothing Idle 4 [] ∷ [])
     -- a refresh with a bank open: DEAC at s + 6 as a PRE would be, REFR tRP later, then tRFC - 1 slots
     ∷ run wide opened (asked Kind.Read 41 2 0 9 ∷ []) PrechargeAll
     (still Nop PrechargeAll (41 ∷ [])
@@ -284,16 +302,43 @@ runs =
     ∷ still Deac Refresh (41 ∷ [])
     ∷ still Nop Refresh (41 ∷ [])
     ∷ still Nop Refresh (41 ∷ [])
-    ∷ line Refr Report.Nothing (RefreshCycle 8) 4 (41 ∷ [])
-    ∷ map (λ (a : Action). line Nop Report.Nothing a 4 (41 ∷ []))
+    ∷ line Refr nothing (RefreshCycle 8) 4 (41 ∷ [])
+    ∷ map (λ (a : Action). line Nop nothing a 4 (41 ∷ []))
     (RefreshCycle 7 ∷ RefreshCycle 6 ∷ RefreshCycle 5 ∷ RefreshCycle 4 ∷ RefreshCycle 3 ∷ RefreshCycle 2 ∷ RefreshCycle 1 ∷ Idle ∷ []))
-    -- with tRFC 5, unlike all other distances
-    ∷ run (configOf 0x4620 4 136 0x22215810) (ready 48) [] PrechargeAll
-    (still Deac Refresh []
-    ∷ still Nop Refresh []
-    ∷ still Nop Refresh []
-    ∷ line Refr Report.Nothing (RefreshCycle 4) 4 []
-    ∷ map (λ (a : Action). line Nop Report.Nothing a 4 []) (RefreshCycle 3 ∷ RefreshCycle 2 ∷ RefreshCycle 1 ∷ Idle ∷ []))
+    -- where no two distances are alike: a read has its READ tRCD after its ACT, and its halfword CL later
+    ∷ run unlike (ready 48) (asked Kind.Read 41 1 8191 1023 ∷ []) (Access 0)
+    (still (act 1 8191) (Access 0) (41 ∷ [])
+    ∷ still Nop (Access 0) (41 ∷ [])
+    ∷ still (rd 1 1023) (CasLatency 0 3) (41 ∷ [])
+    ∷ still Nop (CasLatency 0 2) (41 ∷ [])
+    ∷ still Nop (CasLatency 0 1) (41 ∷ [])
+    ∷ line Nop (some (readDone 41 105)) Turnaround 5 []
+    ∷ still Nop Idle []
+    ∷ [])
+    -- a write to another row: its PRE waits for tWR, its ACT for tRP, its WRT for tRCD
+    ∷ run unlike written (asked Kind.Write 42 0 1 0 ∷ []) (Access 0)
+    (replicate 7 (still Nop (Access 0) (42 ∷ []))
+    ++ still (pre 0) (Access 0) (42 ∷ [])
+    ∷ replicate 3 (still Nop (Access 0) (42 ∷ []))
+    ++ still (act 0 1) (Access 0) (42 ∷ [])
+    ∷ still Nop (Access 0) (42 ∷ [])
+    ∷ line (wrt 0 0) (some (writeDone 42)) Idle 5 []
+    ∷ [])
+    -- and to another bank: its ACT waits for tRRD
+    ∷ run unlike written (asked Kind.Write 42 1 0 0 ∷ []) (Access 0)
+    (replicate 2 (still Nop (Access 0) (42 ∷ []))
+    ++ still (act 1 0) (Access 0) (42 ∷ [])
+    ∷ still Nop (Access 0) (42 ∷ [])
+    ∷ line (wrt 1 0) (some (writeDone 42)) Idle 5 []
+    ∷ [])
+    -- a refresh: its DEAC waits for tWR, its REFR for tRP, and it lasts tRFC - 1 slots more
+    ∷ run unlike written [] PrechargeAll
+    (replicate 7 (still Nop PrechargeAll [])
+    ++ still Deac Refresh []
+    ∷ replicate 3 (still Nop Refresh [])
+    ++ line Refr nothing (RefreshCycle 12) 4 []
+    ∷ map (λ (a : Action). line Nop nothing a 4 [])
+    (map RefreshCycle (11 ∷ 10 ∷ 9 ∷ 8 ∷ 7 ∷ 6 ∷ 5 ∷ 4 ∷ 3 ∷ 2 ∷ 1 ∷ []) ++ Idle ∷ []))
     ∷ []
 
 -- so many slots from an action on; the past is the device's log
@@ -301,7 +346,7 @@ played : ℕ → Config → Log → Counters → Control → Queue → ℕ → L
 played zero c l n x q bus = []
 played (suc left) c l n x q bus =
     let t : Turn = turnOf c (byHistory c l) n x q bus in
-    line (t .command) (t .report) (t .control .action) (t .counters .backlog) (map (λ (r : Request). r .number) (heldOf (t .queue)))
+    line (t .command) (completionOf (t .report)) (t .control .action) (t .counters .backlog) (map (λ (r : Request). r .number) (heldOf (t .queue)))
     ∷ played left c (fed c l (t .command)) (t .counters) (t .control) (t .queue) (suc bus)
 
 logged : Config → Log → List Command → Log
@@ -318,7 +363,7 @@ start x =
     (queue emptyOf (x .requests)) 100
 
 runs-played : map start runs ≡ map (λ (x : Run). x .lines) runs
-unfolding configOf geometryOf asked act rd wrt pre still ready opened control runs played logged queue start turnOf tickedOf currentOf choiceOf rulesOf planOf refreshPlan cycleLeft latencyPlan takenPlan accessPlan transferPlan writePlan readPlan rest tries outcomeOf quietly queueAfter countersAfter refreshedOf tickOf emptyOf acceptOf removeOf without getOf fed startLog last openRow legalOf carriedOf requirements R7 R12-open R13-open R14 marksOf rowOf
+unfolding configOf geometryOf asked act rd wrt pre still ready opened written control runs played logged queue start turnOf tickedOf currentOf choiceOf rulesOf planOf refreshPlan cycleLeft latencyPlan takenPlan accessPlan transferPlan writePlan readPlan rest tries outcomeOf quietly queueAfter countersAfter refreshedOf tickOf emptyOf acceptOf removeOf without getOf fed startLog last openRow legalOf carriedOf requirements R7 R12-open R13-open R14 marksOf rowOf
 runs-played = refl
 
 -- The initialisation of E1's machine, in which each command is legal in the first slot that tries it: E5's slots 1 to 227, and then service.

@@ -3,3 +3,4 @@ pub mod Actions
 pub mod Plan
 pub mod Choice
 pub mod Slot
+pub mod Completion

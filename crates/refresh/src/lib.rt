@@ -102,6 +102,8 @@ pub fn urgency(backlog: u8) -> Level
         1..=3 => Level::May,
         4..=7 => Level::Release,
         8..=11 => Level::Need,
+        12..=15 => Level::Must,
+        // No sound record has a backlog above 15.
         _ => Level::Must,
     }
 }

@@ -5,7 +5,7 @@ use mathlib.Core.List.{List, [], _∷_, _++_, map}
 use lib.ListN.{replicate}
 use lib.Dec.{leb, ltb}
 use mathlib.Core.Bool.{cond}
-use Rattle.words.specs.Words.{Bits, NM, CL, IBANK, PAGESIZE, ROWSIZE, RR, T-RFC, T-RP, T-RCD, T-WR, T-RAS, T-RC, T-RRD, cfgReserved, rowReserved, refReserved, timReserved}
+use Rattle.words.specs.Words.{Bits, fieldOf, NM, CL, IBANK, PAGESIZE, ROWSIZE, RR, T-RFC, T-RP, T-RCD, T-WR, T-RAS, T-RC, T-RRD, cfgReserved, rowReserved, refReserved, timReserved}
 
 -- how many of these fields hold bit i
 abbrev pub holders : ℕ → List Bits → ℕ
@@ -25,3 +25,10 @@ pub covered : map (λ w. map (λ i. holders i w) (upTo 32))
     ∷ [])
     ≡ replicate 4 (replicate 32 1)
 covered = refl
+
+-- the numbers in the named fields: of words whose fields all differ, so that no two can be exchanged, and of E4's TIM
+pub named : map (fieldOf 0x4612) (NM ∷ CL ∷ IBANK ∷ PAGESIZE ∷ []) ++ fieldOf 4 ROWSIZE ∷ fieldOf 185 RR ∷ []
+    ++ map (fieldOf 0x63175a40) (T-RFC ∷ T-RP ∷ T-RCD ∷ T-WR ∷ T-RAS ∷ T-RC ∷ T-RRD ∷ [])
+    ++ map (fieldOf 0x42215810) (T-RFC ∷ T-RP ∷ T-RCD ∷ T-WR ∷ T-RAS ∷ T-RC ∷ T-RRD ∷ [])
+    ≡ 1 ∷ 3 ∷ 1 ∷ 2 ∷ 4 ∷ 185 ∷ 12 ∷ 3 ∷ 1 ∷ 7 ∷ 5 ∷ 10 ∷ 4 ∷ 8 ∷ 2 ∷ 2 ∷ 1 ∷ 5 ∷ 8 ∷ 1 ∷ []
+named = refl

@@ -2,7 +2,7 @@
 use borrow.Author.Needs.{needs}
 use Rattle.answer.proofs.and_report.Statement.{statement}
 use Rattle.answer.proofs.and_report.Tie as tie
-use Rattle.answer.specs.Output.{reportOf}
+use Rattle.answer.specs.Output.{andTwo, reportOf}
 
 enum-told : tie.Need-enum-told
 enum-told c = search needs
@@ -39,7 +39,7 @@ unfolding reportOf
 returns c = simp (c .before .before .enum-told .given .1, ← c .before .byte .ensures, ← c .byte2 .ensures)
 
 returns-2 : tie.Need-returns-2
-unfolding reportOf
+unfolding reportOf andTwo
 returns-2 c = simp (c .before .before .report .given .1, ← c .and-two .ensures)
 
 returns-3 : tie.Need-returns-3

@@ -333,7 +333,7 @@ module _ {c : Config} {p : Past} {q : Queue} {a : Action} {n : ℕ} {d : Sdram} 
       performed-both c p Fine (writePlan at r)
       (λ l. record {
         ordered = ordered-removed o s r held (write-served (its o s r held (o .good)) k x l) tt;
-        reports = λ w y z. named o s r held Kind.Write k w y z;
+        reports = λ w y z. (named o s r held Kind.Write k w y z, tt);
         counted = omega (arith, remove-count q at (s .within) (o .tidy));
       })
       (λ l. quiet-fine Nop (Access at) tt s)

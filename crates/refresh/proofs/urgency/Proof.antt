@@ -22,5 +22,8 @@ returns-4 c = sym (level-at Need _ (search needs, search needs))
 returns-5 : tie.Need-returns-5
 returns-5 c = sym (level-at Must _ (search needs))
 
+returns-6 : tie.Need-returns-6
+returns-6 c = sym (level-at Must _ (search needs))
+
 pub urgency-spec : {M : Type 1} → statement M
-urgency-spec = tie.close (tie.spec returns returns-2 returns-3 returns-4 returns-5)
+urgency-spec = tie.close (tie.spec returns returns-2 returns-3 returns-4 returns-5 returns-6)
