@@ -1,7 +1,7 @@
 -- Address and cell determine each other, over all widths at once: every even address below the capacity has one cell within the geometry,
 -- and every cell within the geometry has one such address.
 use Prim.Native.Nat.{ℕ, _+_, _*_, _/_, _%_, _^_, _<_, _≤_}
-use native.Mathlib.Nat.{mod-lt}
+use native.Mathlib.Nat.{mod-lt, mod-eq-of-lt}
 use native.Mathlib.Omega.{arith}
 use mathlib.Core.Path.{_≡_, refl, sym, ap, _∙_}
 use mathlib.Core.Bool.{Bool, true, false, cond, _&&_, and-eq-true-iff}
@@ -15,22 +15,24 @@ use Rattle.address.specs.Map.{capacityOf, addressNumberOf, cellOf, addre
 use Rattle.address.specs.declared.Cell.{Cell}
 
 module _ (g : Geometry) where
-  -- an address below the capacity has a cell within the geometry
-  pub cell-within : (a : ℕ) → a < capacityOf g → Holds g (cellOf g a)
-  unfolding capacityOf cellOf
-  cell-within a h =
-      let page = shr-lt (g .rows + g .banks) (g .columns) (shr-lt (g .rows + g .banks + g .columns) 1 h) in
-      record {
-        bank = mod-lt _ (pow-pos (g .banks));
-        row = shr-lt (g .rows) (g .banks) page;
-        column = mod-lt _ (pow-pos (g .columns));
-      }
+  -- every address has a cell within the geometry
+  pub cell-within : (a : ℕ) → Holds g (cellOf g a)
+  unfolding cellOf
+  cell-within a =
+      record { bank = mod-lt _ (pow-pos (g .banks)); row = mod-lt _ (pow-pos (g .rows)); column = mod-lt _ (pow-pos (g .columns)) }
 
-  -- from an even address to its cell and back
-  pub address-back : (a : ℕ) → a % 2 ≡ 0 → addressOf g (cellOf g a) ≡ a
+  -- below the capacity no bit of the row is left out
+  row-whole : (a : ℕ) → a < capacityOf g → a / 2 / 2 ^ (g .columns) / 2 ^ (g .banks) % 2 ^ (g .rows) ≡ a / 2 / 2 ^ (g .columns) / 2 ^ (g .banks)
+  unfolding capacityOf
+  row-whole a h =
+      mod-eq-of-lt
+      (shr-lt (g .rows) (g .banks) (shr-lt (g .rows + g .banks) (g .columns) (shr-lt (g .rows + g .banks + g .columns) 1 h)))
+
+  -- from an even address below the capacity to its cell and back
+  pub address-back : (a : ℕ) → a % 2 ≡ 0 → a < capacityOf g → addressOf g (cellOf g a) ≡ a
   unfolding cellOf addressOf
-  address-back a even =
-      simp (split (a / 2 / 2 ^ (g .columns)) (g .banks), split (a / 2) (g .columns)) (omega (arith, split a 1))
+  address-back a even below =
+      simp (row-whole a below, split (a / 2 / 2 ^ (g .columns)) (g .banks), split (a / 2) (g .columns)) (omega (arith, split a 1))
 
   -- from a cell within the geometry to its address and back
   pub cell-back : (c : Cell) → Holds g c → cellOf g (addressOf g c) ≡ c
@@ -43,6 +45,7 @@ module _ (g : Geometry) where
         low page (g .columns) (h .column),
         high (c .row .0) (g .banks) (h .bank),
         low (c .row .0) (g .banks) (h .bank),
+        mod-eq-of-lt (h .row),
       )
 
   -- a cell's address is even
@@ -63,9 +66,9 @@ module _ (g : Geometry) where
   unfolding addressOf capacityOf
   address-below c h = shl-lt (g .rows + g .banks + g .columns) 1 (word-below c h)
 
-  -- no two even addresses share a cell
-  pub cells-differ : (a b : ℕ) → a % 2 ≡ 0 → b % 2 ≡ 0 → cellOf g a ≡ cellOf g b → a ≡ b
-  cells-differ a b ea eb same = sym (address-back a ea) ∙ ap (addressOf g) same ∙ address-back b eb
+  -- no two even addresses below the capacity share a cell
+  pub cells-differ : (a b : ℕ) → a % 2 ≡ 0 → b % 2 ≡ 0 → a < capacityOf g → b < capacityOf g → cellOf g a ≡ cellOf g b → a ≡ b
+  cells-differ a b ea eb la lb same = sym (address-back a ea la) ∙ ap (addressOf g) same ∙ address-back b eb lb
 
   -- the test and the fact
   pub holds-true : (c : Cell) → holdsOf g c ≡ true → Holds g c

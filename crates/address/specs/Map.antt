@@ -13,12 +13,13 @@ cellAt b r c = record { bank = record { 0 = b }; row = record { 0 = r }; column 
 unfoldable pub capacityOf : Geometry → ℕ
 capacityOf g = 2 ^ (g .rows + g .banks + g .columns + 1)
 
--- an address from the low end: one zero bit, the column bits, the bank bits, the row bits
+-- an address from the low end: one zero bit, the column bits, the bank bits, the row bits; higher bits, which no address below the capacity has, are
+-- left out
 unfoldable pub cellOf : Geometry → ℕ → Cell
 cellOf g a =
     let word : ℕ = a / 2 in
     let page : ℕ = word / 2 ^ (g .columns) in
-    cellAt (page % 2 ^ (g .banks)) (page / 2 ^ (g .banks)) (word % 2 ^ (g .columns))
+    cellAt (page % 2 ^ (g .banks)) (page / 2 ^ (g .banks) % 2 ^ (g .rows)) (word % 2 ^ (g .columns))
 
 unfoldable pub addressOf : Geometry → Cell → ℕ
 addressOf g c = ((c .row .0 * 2 ^ (g .banks) + c .bank .0) * 2 ^ (g .columns) + c .column .0) * 2
@@ -35,10 +36,10 @@ pub record Holds (g : Geometry) (c : Cell) : Type 0 where
 -- Address and cell determine each other: every even address below the capacity has one cell within the geometry, and every such cell one
 -- such address.
 pub record Determined (g : Geometry) : Type 0 where
-  pub within : (a : ℕ) → a < capacityOf g → Holds g (cellOf g a)
+  pub within : (a : ℕ) → Holds g (cellOf g a)
   pub even : (c : Cell) → addressOf g c % 2 ≡ 0
   pub below : (c : Cell) → Holds g c → addressOf g c < capacityOf g
-  pub back : (a : ℕ) → a % 2 ≡ 0 → addressOf g (cellOf g a) ≡ a
+  pub back : (a : ℕ) → a % 2 ≡ 0 → a < capacityOf g → addressOf g (cellOf g a) ≡ a
   pub forth : (c : Cell) → Holds g c → cellOf g (addressOf g c) ≡ c
 
 -- the number for an address: 4 where it is odd, then 5 where it is at or beyond the capacity, else 0

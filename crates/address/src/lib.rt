@@ -64,19 +64,19 @@ pub fn address_number(g: Geometry, address: u32) -> u8
     0
 }
 
-// The cell of an address within the device.
+// The cell of an address; of one beyond the device, which no request has, that of its low bits.
 pub fn cell_of(g: Geometry, address: u32) -> Cell
     requires { ⌜ Shaped g ⌝ }
-    requires { ⌜ address < capacityOf g ⌝ }
     ensures { λ r. ⌜ r ≡ cellOf g address ⌝ }
 {
     let word = address / 2;
     let columns = span(g.columns);
     let banks = span(g.banks);
+    let rows = span(g.rows);
     let page = word / columns;
     Cell {
         bank: Bank((page % banks) as u8),
-        row: Row((page / banks) as u16),
+        row: Row((page / banks % rows) as u16),
         column: Column((word % columns) as u16),
     }
 }

@@ -11,14 +11,14 @@ use Rattle.queue.specs.declared.Found.{Found}
 use Rattle.queue.specs.declared.Found.the-variants.{At, Nothing}
 use Rattle.queue.specs.declared.Request.{Request}
 use Rattle.queue.specs.declared.Queue.{Queue}
-use Rattle.queue.specs.Places.{noRequest, requestFor, cellHeld, without, emptyOf, acceptOf, removeOf, getOf}
+use Rattle.queue.specs.Places.{noRequest, requestFor, without, emptyOf, acceptOf, removeOf, getOf}
 use Rattle.queue.specs.Oldest.{blockedOf, readyOf, oldestOf}
 use Rattle.queue.proofs.Order.{Rising, end, next}
 use Rattle.queue.proofs.Consistent.{applied, Consistent, same, then}
 
 -- a request of a kind at an address, with a number and a halfword
 abbrev ask : ℕ → Kind → ℕ → ℕ → Request
-ask n k a h = requestFor k n a (cellHeld noRequest) h
+ask n k a h = requestFor k n a h
 
 abbrev readAt : ℕ → Request
 readAt a = ask 1 Read a 0

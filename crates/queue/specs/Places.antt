@@ -4,31 +4,24 @@ use mathlib.Core.Bool.{cond}
 use mathlib.Core.List.{List, [], _∷_, _++_}
 use lib.Dec.{ltb}
 use lib.ListN.{length, getD, take, drop, set, replicate}
+use Rattle.config.specs.declared.Geometry.{Geometry}
 use Rattle.address.specs.declared.Cell.{Cell}
+use Rattle.address.specs.Map.{cellOf}
 use Rattle.queue.specs.declared.Kind.{Kind}
 use Rattle.queue.specs.declared.Kind.the-variants.{Read}
 use Rattle.queue.specs.declared.Request.{Request}
 use Rattle.queue.specs.declared.Queue.{Queue}
 
--- a request for a cell, and the cell that a request is for
-abbrev pub requestFor : Kind → ℕ → ℕ → Cell → ℕ → Request
-requestFor kind number address cell halfword =
-    record {
-      number = number;
-      address = address;
-      row = cell .row;
-      column = cell .column;
-      halfword = halfword;
-      bank = cell .bank;
-      kind = kind;
-    }
+abbrev pub requestFor : Kind → ℕ → ℕ → ℕ → Request
+requestFor kind number address halfword = record { number = number; address = address; halfword = halfword; kind = kind }
 
-abbrev pub cellHeld : Request → Cell
-cellHeld r = record { bank = r .bank; row = r .row; column = r .column }
+-- the cell that a request is for
+abbrev pub cellHeld : Geometry → Request → Cell
+cellHeld g r = cellOf g (r .address)
 
 -- what a place holds that no request uses
 abbrev pub noRequest : Request
-noRequest = requestFor Read 0 0 (record { bank = record { 0 = 0 }; row = record { 0 = 0 }; column = record { 0 = 0 } }) 0
+noRequest = requestFor Read 0 0 0
 
 -- the queued requests, oldest first
 abbrev pub heldOf : Queue → List Request

@@ -1,13 +1,6 @@
 // Owns the queue of accepted requests (document 01, "A service slot"): acceptance and removal; and the definitions of blocked requests and of the
 // oldest unblocked read and write, for which `search` looks.
-use address::Bank;
-use address::Cell;
-use address::Column;
-use address::Row;
-use config::Geometry;
 ghost use Rattle.queue.specs.Places.{noRequest, heldOf, emptyOf, acceptOf, removeOf, getOf, without};
-ghost use Rattle.queue.specs.Sound.{insideOf};
-ghost use Rattle.config.specs.Accepted.{Shaped};
 ghost use lib.ListN.{length, take};
 ghost use mathlib.Core.List.{[], _∷_, _++_};
 ghost use mathlib.Core.Path.{_≡_};
@@ -18,15 +11,11 @@ pub enum Kind {
     Write,
 }
 
-// One accepted request: its number, its byte address, and bank, row and column of the cell there. A read's halfword means nothing. In this order
-// it takes 16 bytes.
+// One accepted request: its number and its byte address, of which the cell is made when it is served (`cellHeld`). A read's halfword means nothing.
 pub struct Request {
     pub number: u32,
     pub address: u32,
-    pub row: Row,
-    pub column: Column,
     pub halfword: u16,
-    pub bank: Bank,
     pub kind: Kind,
 }
 
@@ -49,10 +38,7 @@ fn blank() -> Request
     Request {
         number: 0,
         address: 0,
-        row: Row(0),
-        column: Column(0),
         halfword: 0,
-        bank: Bank(0),
         kind: Kind::Read,
     }
 }
@@ -71,27 +57,6 @@ fn closed(places: [Request; 8], at: usize) -> [Request; 8]
     }
     moved[7] = blank();
     moved
-}
-
-// Do the cells of the first `end` requests lie in the geometry?
-fn all_inside(g: Geometry, places: [Request; 8], end: usize) -> bool
-    requires { ⌜ Shaped g ⌝ }
-    requires { ⌜ end ≤ 8 ⌝ }
-    ensures { λ r. ⌜ r ≡ insideOf g (take end places) ⌝ }
-{
-    let mut i = 0;
-    while i < end {
-        let r = places[i];
-        let bank = r.bank;
-        let row = r.row;
-        let column = r.column;
-        let cell = Cell { bank, row, column };
-        if !address::holds(g, cell) {
-            return false;
-        }
-        i += 1;
-    }
-    true
 }
 
 impl Queue {
@@ -151,16 +116,5 @@ impl Queue {
             return 8;
         }
         self.count
-    }
-
-    // Soundness, half of the queue's part of the test for number 9: do the cells of the queued requests lie in the geometry? The count is tested
-    // before (`numbers::state_sound`).
-    pub fn inside(self, g: Geometry) -> bool
-        requires { ⌜ Shaped g ⌝ }
-        requires { ⌜ self .count ≤ 8 ⌝ }
-        ensures { λ r. ⌜ r ≡ insideOf g (heldOf self) ⌝ }
-    {
-        let places = self.places;
-        all_inside(g, places, self.count)
     }
 }

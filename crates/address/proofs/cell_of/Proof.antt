@@ -2,7 +2,6 @@
 use borrow.Author.Needs.{needs}
 use Rattle.address.proofs.cell_of.Statement.{statement}
 use Rattle.address.proofs.cell_of.Tie as tie
-use Rattle.address.specs.Map.{capacityOf}
 use Rattle.address.specs.Map.{cellOf}
 use native.Mathlib.Omega.{arith}
 use lib.Pow.{pow-pos}
@@ -14,38 +13,44 @@ span-requires c κs = search needs
 span-requires-2 : tie.Need-span-requires-2
 span-requires-2 c κs = search needs
 
+span-requires-3 : tie.Need-span-requires-3
+span-requires-3 c κs = search needs
+
 div-page : tie.Need-div-page
-div-page c = rw (c .before .span .ensures) (pow-pos _)
+div-page c = rw (c .before .before .span .ensures) (pow-pos _)
 
-rem-t7 : tie.Need-rem-t7
-rem-t7 c = rw (c .span2 .ensures) (pow-pos _)
+rem-t8 : tie.Need-rem-t8
+rem-t8 c = rw (c .before .span2 .ensures) (pow-pos _)
 
-cell-small : (c : tie.After-span2) → Small (cellOf (c .before .before .args .g) (c .before .before .args .address))
+cell-small : (c : tie.After-span3) → Small (cellOf (c .before .before .before .args .g) (c .before .before .before .args .address))
 cell-small c =
-    let start = c .before .before in
-    small (start .args .g) (start .pre .0) _ (cell-within (start .args .g) (start .args .address) (start .pre .1))
+    let start = c .before .before .before in
+    small (start .args .g) (start .pre) _ (cell-within (start .args .g) (start .args .address))
 
-cast-t8 : tie.Need-cast-t8
+cast-t9 : tie.Need-cast-t9
 unfolding cellOf
-cast-t8 c = rw (c .before .span .ensures, c .span2 .ensures) (omega (arith, cell-small c .bank))
+cast-t9 c = rw (c .before .before .span .ensures, c .before .span2 .ensures) (omega (arith, cell-small c .bank))
 
-div-t10 : tie.Need-div-t10
-div-t10 c = rw (c .span2 .ensures) (pow-pos _)
+div-t11 : tie.Need-div-t11
+div-t11 c = rw (c .before .span2 .ensures) (pow-pos _)
 
-cast-t11 : tie.Need-cast-t11
+rem-t12 : tie.Need-rem-t12
+rem-t12 c = rw (c .span3 .ensures) (pow-pos _)
+
+cast-t13 : tie.Need-cast-t13
 unfolding cellOf
-cast-t11 c = rw (c .before .span .ensures, c .span2 .ensures) (omega (arith, cell-small c .row))
+cast-t13 c = rw (c .before .before .span .ensures, c .before .span2 .ensures, c .span3 .ensures) (omega (arith, cell-small c .row))
 
-rem-t13 : tie.Need-rem-t13
-rem-t13 c = rw (c .before .span .ensures) (pow-pos _)
+rem-t15 : tie.Need-rem-t15
+rem-t15 c = rw (c .before .before .span .ensures) (pow-pos _)
 
-cast-t14 : tie.Need-cast-t14
+cast-t16 : tie.Need-cast-t16
 unfolding cellOf
-cast-t14 c = rw (c .before .span .ensures) (omega (arith, cell-small c .column))
+cast-t16 c = rw (c .before .before .span .ensures) (omega (arith, cell-small c .column))
 
 returns : tie.Need-returns
-unfolding capacityOf cellOf
-returns c = simp (← c .before .span .ensures, ← c .span2 .ensures)
+unfolding cellOf
+returns c = simp (← c .before .before .span .ensures, ← c .before .span2 .ensures, ← c .span3 .ensures)
 
 pub cell-of-spec : {M : Type 1} → statement M
 cell-of-spec =
@@ -53,11 +58,13 @@ cell-of-spec =
     (tie.spec
     span-requires
     span-requires-2
+    span-requires-3
     div-page
-    rem-t7
-    cast-t8
-    div-t10
-    cast-t11
-    rem-t13
-    cast-t14
+    rem-t8
+    cast-t9
+    div-t11
+    rem-t12
+    cast-t13
+    rem-t15
+    cast-t16
     returns)

@@ -1,11 +1,9 @@
--- `address::located` meets its contract: an address with no number lies below the capacity.
+-- `address::located` meets its contract: the test is the definition's.
 use borrow.Author.Needs.{needs}
 use Rattle.address.proofs.located.Statement.{statement}
 use Rattle.address.proofs.located.Tie as tie
 use Rattle.address.specs.Standalone.{locatedOf}
 use borrow.Author.Tests.{eq-eqb, ne-eqb}
-use mathlib.Core.Path.{sym, _∙_}
-use Rattle.address.proofs.Laws.{address-good}
 
 address-number-requires : tie.Need-address-number-requires
 address-number-requires c κs = search needs
@@ -18,7 +16,7 @@ unfolding locatedOf
 returns c = simp (← c .before .before .address-number .ensures, ne-eqb _ _ (c .before .if1 .taken), ← c .no-cell .ensures)
 
 cell-of-requires : tie.Need-cell-of-requires
-cell-of-requires c κs = (c .before .before .pre, address-good _ _ (sym (c .before .address-number .ensures) ∙ c .if1 .left) .1)
+cell-of-requires c κs = search needs
 
 returns-2 : tie.Need-returns-2
 unfolding locatedOf
