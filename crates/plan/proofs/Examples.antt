@@ -7,6 +7,8 @@ use mathlib.Core.List.{List, [], _∷_, _++_, map}
 use mathlib.Core.Option.{Option, some, none as nothing}
 use lib.ListN.{length, replicate}
 use Rattle.config.specs.declared.Config.{Config}
+use Rattle.config.specs.declared.Geometry.{Geometry}
+use Rattle.address.specs.Map.{cellAt, cellOf, addressOf}
 use Rattle.config.specs.Setting.{geometryOf, configOf}
 use Rattle.command.specs.declared.Command.{Command}
 use Rattle.command.specs.declared.Command.the-variants.{Nop, Act, Wrt, Pre, Deac, Refr, Mrs}
@@ -18,7 +20,7 @@ use Rattle.queue.specs.declared.Found.{Found}
 use Rattle.queue.specs.declared.Found.the-variants.{At}
 use Rattle.queue.specs.declared.Request.{Request}
 use Rattle.queue.specs.declared.Queue.{Queue}
-use Rattle.queue.specs.Places.{requestFor, cellHeld, noRequest, heldOf, without, emptyOf, acceptOf, removeOf, getOf}
+use Rattle.queue.specs.Places.{requestFor, noRequest, heldOf, without, emptyOf, acceptOf, removeOf, getOf}
 use Rattle.queue.specs.Oldest.{blockedOf, readyOf, oldestOf}
 use Rattle.refresh.specs.declared.Counters.{Counters}
 use Rattle.refresh.specs.declared.Level.{Level}
@@ -126,7 +128,7 @@ choices-made = refl
 -- unblocked read, and with no such read the oldest write; the flag goes with it, and an action under way keeps both.
 
 asks : Kind → ℕ → ℕ → Request
-asks kind n address = requestFor kind n address (cellHeld noRequest) 0
+asks kind n address = requestFor kind n address 0
 
 mixed : Queue
 mixed = acceptOf (acceptOf (acceptOf emptyOf (asks Kind.Write 1 0)) (asks Kind.Read 2 2046)) (asks Kind.Read 3 2048)
@@ -218,12 +220,12 @@ record Run : Type 0 where
   action : Action
   lines : List Line
 
-abbrev run : Config → List Command → List Request → Action → List Line → Run
-run c ks rs a ls = record { config = c; before = ks; requests = rs; action = a; lines = ls }
+abbrev run : Config → List Command → List (Geometry → Request) → Action → List Line → Run
+run c ks rs a ls = record { config = c; before = ks; requests = map (λ f. f (c .geometry)) rs; action = a; lines = ls }
 
 -- the requests at bank, row and column are numbered 41, 42, ..; a write's halfword is 7
-asked : Kind → ℕ → ℕ → ℕ → ℕ → Request
-asked kind n b r k = requestFor kind n 0 (record { bank = record { 0 = b }; row = record { 0 = r }; column = record { 0 = k } }) 7
+asked : Kind → ℕ → ℕ → ℕ → ℕ → Geometry → Request
+asked kind n b r k g = requestFor kind n (addressOf g (cellAt b r k)) 7
 
 act : ℕ → ℕ → Command
 act b r = Act (record { 0 = b }) (record { 0 = r })
@@ -363,7 +365,7 @@ start x =
     (queue emptyOf (x .requests)) 100
 
 runs-played : map start runs ≡ map (λ (x : Run). x .lines) runs
-unfolding configOf geometryOf asked act rd wrt pre still ready opened written control runs played logged queue start turnOf tickedOf currentOf choiceOf rulesOf planOf refreshPlan cycleLeft latencyPlan takenPlan accessPlan transferPlan writePlan readPlan rest tries outcomeOf quietly queueAfter countersAfter refreshedOf tickOf emptyOf acceptOf removeOf without getOf fed startLog last openRow legalOf carriedOf requirements R7 R12-open R13-open R14 marksOf rowOf
+unfolding configOf geometryOf cellOf addressOf asked act rd wrt pre still ready opened written control runs played logged queue start turnOf tickedOf currentOf choiceOf rulesOf planOf refreshPlan cycleLeft latencyPlan takenPlan accessPlan transferPlan writePlan readPlan rest tries outcomeOf quietly queueAfter countersAfter refreshedOf tickOf emptyOf acceptOf removeOf without getOf fed startLog last openRow legalOf carriedOf requirements R7 R12-open R13-open R14 marksOf rowOf
 runs-played = refl
 
 -- The initialisation of E1's machine, in which each command is legal in the first slot that tries it: E5's slots 1 to 227, and then service.

@@ -5,6 +5,7 @@ use mathlib.Core.Bool.{Bool, true, false, cond}
 use mathlib.Core.Option.{Option, none, some}
 use lib.Dec.{eqb, leb}
 use Rattle.address.specs.declared.Row.{Row}
+use Rattle.address.specs.declared.Cell.{Cell}
 use Rattle.config.specs.declared.Config.{Config}
 use Rattle.command.specs.declared.Command.{Command}
 use Rattle.command.specs.declared.Command.the-variants.{Nop, Act, Wrt, Pre, Deac, Refr, Mrs}
@@ -12,7 +13,7 @@ use Rattle.device.specs.View.{View}
 use Rattle.queue.specs.declared.Kind.{Kind}
 use Rattle.queue.specs.declared.Queue.{Queue}
 use Rattle.queue.specs.declared.Request.{Request}
-use Rattle.queue.specs.Places.{removeOf}
+use Rattle.queue.specs.Places.{cellHeld, removeOf}
 use Rattle.refresh.specs.declared.Counters.{Counters}
 use Rattle.refresh.specs.Counting.{refreshedOf}
 use Rattle.plan.specs.declared.Action.{Action}
@@ -65,30 +66,30 @@ afterInitRefresh n = cond (leb n 1) InitMode (InitRefresh (n - 1))
 abbrev pub modeWord : Config → ℕ
 modeWord c = 16 * c .latency
 
--- An access, of request r at place i: PRE only if its bank holds another row, ACT only if the row isn't open, then READ or WRT.
+-- An access, of request r at place i with its cell x: PRE only if its bank holds another row, ACT only if the row isn't open, then READ or WRT.
 
 -- a read's halfword is on the bus CL slots after its READ
-unfoldable pub readPlan : Config → ℕ → Request → Plan
-readPlan c i r = tries (Command.Read (r .bank) (r .column)) (Access i) (CasLatency i (c .latency))
+unfoldable pub readPlan : Config → ℕ → Cell → Plan
+readPlan c i x = tries (Command.Read (x .bank) (x .column)) (Access i) (CasLatency i (c .latency))
 
 -- a write is reported and leaves the queue in its WRT slot, which is the action's last
-unfoldable pub writePlan : ℕ → Request → Plan
-writePlan i r =
+unfoldable pub writePlan : ℕ → Request → Cell → Plan
+writePlan i r x =
     record {
-      command = Wrt (r .bank) (r .column) (r .halfword);
+      command = Wrt (x .bank) (x .column) (r .halfword);
       sent = record { action = Idle; report = Report.Write (r .number); leaves = true; refreshes = false };
       stays = Access i;
     }
 
-unfoldable pub transferPlan : Config → ℕ → Request → Kind → Plan
-transferPlan c i r Kind.Read = readPlan c i r
-transferPlan c i r Kind.Write = writePlan i r
+unfoldable pub transferPlan : Config → ℕ → Request → Cell → Kind → Plan
+transferPlan c i r x Kind.Read = readPlan c i x
+transferPlan c i r x Kind.Write = writePlan i r x
 
 -- by the bank's open row
-unfoldable pub accessPlan : Config → Option Row → ℕ → Request → Plan
-accessPlan c none i r = tries (Act (r .bank) (r .row)) (Access i) (Access i)
-accessPlan c (some open-row) i r =
-    cond (eqb (open-row .0) (r .row .0)) (transferPlan c i r (r .kind)) (tries (Pre (r .bank)) (Access i) (Access i))
+unfoldable pub accessPlan : Config → Option Row → ℕ → Request → Cell → Plan
+accessPlan c none i r x = tries (Act (x .bank) (x .row)) (Access i) (Access i)
+accessPlan c (some open-row) i r x =
+    cond (eqb (open-row .0) (x .row .0)) (transferPlan c i r x (r .kind)) (tries (Pre (x .bank)) (Access i) (Access i))
 
 -- a read is reported with the bus halfword in slot t + CL, and leaves the queue there; one slot more is occupied
 unfoldable pub takenPlan : Request → ℕ → Plan
@@ -123,7 +124,7 @@ planOf c v r (InitRefresh n) bus = tries Refr (InitRefresh n) (afterInitRefresh 
 planOf c v r InitMode bus = tries (Mrs (modeWord c)) InitMode InitSettle
 planOf c v r InitSettle bus = rest Idle
 planOf c v r Idle bus = rest Idle
-planOf c v r (Access i) bus = accessPlan c (v .row (r .bank .0)) i r
+planOf c v r (Access i) bus = let x : Cell = cellHeld (c .geometry) r in accessPlan c (v .row (x .bank .0)) i r x
 planOf c v r (CasLatency i left) bus = latencyPlan i left r bus
 planOf c v r Turnaround bus = rest Idle
 planOf c v r PrechargeAll bus = tries Deac PrechargeAll Refresh
