@@ -1,5 +1,6 @@
 // Owns the code of a slot's plan (document 01, "Start" and "A service slot"; `plan` has the rules): the action's next command if it is legal,
 // otherwise NOP, and what follows.
+use address::Cell;
 use ages::Past;
 use command::Command;
 use config::Config;
@@ -15,6 +16,7 @@ ghost use Rattle.config.specs.Accepted.{Shaped};
 ghost use Rattle.ages.specs.Ages.{rowAt, byAges};
 ghost use Rattle.command.specs.declared.Command.the-variants.{Mrs};
 ghost use Rattle.plan.specs.declared.Action.the-variants.{InitMode, InitSettle};
+ghost use Rattle.queue.specs.Places.{cellHeld};
 ghost use Rattle.plan.specs.Plan.{
   tries,
   modeWord,
@@ -150,13 +152,13 @@ fn latency(i: usize, left: u8, r: Request, bus: u16) -> Carried
     rest(Action::CasLatency(i, left - 1))
 }
 
-// The READ for the request r at place i.
-fn read(c: Config, p: Past, i: usize, r: Request) -> Carried
+// The READ for the request at place i with this cell.
+fn read(c: Config, p: Past, i: usize, cell: Cell) -> Carried
     requires { ⌜ Shaped (c .geometry) ⌝ }
-    ensures { λ e. ⌜ e ≡ conductedOf c (byAges c p) (readPlan c i r) ⌝ }
+    ensures { λ e. ⌜ e ≡ conductedOf c (byAges c p) (readPlan c i cell) ⌝ }
 {
-    let bank = r.bank;
-    let column = r.column;
+    let bank = cell.bank;
+    let column = cell.column;
     let legal = legality::read_legal(c, p, bank, column);
     let command = Command::Read(bank, column);
     tried(
@@ -168,12 +170,12 @@ fn read(c: Config, p: Past, i: usize, r: Request) -> Carried
 }
 
 // The WRT for the request r at place i.
-fn write(c: Config, p: Past, i: usize, r: Request) -> Carried
+fn write(c: Config, p: Past, i: usize, r: Request, cell: Cell) -> Carried
     requires { ⌜ Shaped (c .geometry) ⌝ }
-    ensures { λ e. ⌜ e ≡ conductedOf c (byAges c p) (writePlan i r) ⌝ }
+    ensures { λ e. ⌜ e ≡ conductedOf c (byAges c p) (writePlan i r cell) ⌝ }
 {
-    let bank = r.bank;
-    let column = r.column;
+    let bank = cell.bank;
+    let column = cell.column;
     let legal = legality::wrt_legal(c, p, bank, column);
     let command = Command::Wrt(bank, column, r.halfword);
     let sent = Outcome {
@@ -186,29 +188,29 @@ fn write(c: Config, p: Past, i: usize, r: Request) -> Carried
 }
 
 // The READ or the WRT.
-fn transfer(c: Config, p: Past, i: usize, r: Request, kind: Kind) -> Carried
+fn transfer(c: Config, p: Past, i: usize, r: Request, cell: Cell, kind: Kind) -> Carried
     requires { ⌜ Shaped (c .geometry) ⌝ }
-    ensures { λ e. ⌜ e ≡ conductedOf c (byAges c p) (transferPlan c i r kind) ⌝ }
+    ensures { λ e. ⌜ e ≡ conductedOf c (byAges c p) (transferPlan c i r cell kind) ⌝ }
 {
     match kind {
-        Kind::Read => read(c, p, i, r),
-        Kind::Write => write(c, p, i, r),
+        Kind::Read => read(c, p, i, cell),
+        Kind::Write => write(c, p, i, r, cell),
     }
 }
 
 // The access's next command: PRE, ACT, or READ or WRT.
-fn access(c: Config, p: Past, i: usize, r: Request) -> Carried
+fn access_to(c: Config, p: Past, i: usize, r: Request, cell: Cell) -> Carried
     requires { ⌜ Shaped (c .geometry) ⌝ }
-    ensures { λ e. ⌜ e ≡ conductedOf c (byAges c p) (accessPlan c (rowAt p (r .bank .0)) i r) ⌝ }
+    ensures { λ e. ⌜ e ≡ conductedOf c (byAges c p) (accessPlan c (rowAt p (cell .bank .0)) i r cell) ⌝ }
 {
-    let bank = r.bank;
-    let row = r.row;
+    let bank = cell.bank;
+    let row = cell.row;
     let here = Action::Access(i);
     if ages::is_open(p, bank) {
         let opened = ages::row_in(p, bank);
         if opened.0 == row.0 {
             let kind = r.kind;
-            return transfer(c, p, i, r, kind);
+            return transfer(c, p, i, r, cell, kind);
         }
         return tried(
             legality::pre_legal(c, p, bank),
@@ -223,6 +225,16 @@ fn access(c: Config, p: Past, i: usize, r: Request) -> Carried
         here,
         here,
     )
+}
+
+// The access of the request r at place i: to the cell of its address.
+fn access(c: Config, p: Past, i: usize, r: Request) -> Carried
+    requires { ⌜ Shaped (c .geometry) ⌝ }
+    ensures { λ e. ⌜ e ≡ conductedOf c (byAges c p) (accessPlan c (rowAt p (cellHeld (c .geometry) r .bank .0)) i r (cellHeld (c .geometry) r)) ⌝ }
+{
+    let geometry = c.geometry;
+    let cell = address::cell_of(geometry, r.address);
+    access_to(c, p, i, r, cell)
 }
 
 // The REFR of a refresh.

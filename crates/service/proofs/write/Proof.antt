@@ -16,7 +16,7 @@ returns : tie.Need-returns
 unfolding conductedOf writePlan
 returns c =
     let a = c .before .before .before .before .args in
-    simp (wrt-any (a .c) (a .p) (a .r .bank) (a .r .column) (a .r .halfword) 0, ← c .before .wrt-legal .ensures, ← c .carried-out .ensures)
+    simp (wrt-any (a .c) (a .p) (a .cell .bank) (a .cell .column) (a .r .halfword) 0, ← c .before .wrt-legal .ensures, ← c .carried-out .ensures)
 
 pub write-spec : {M : Type 1} → statement M
 write-spec = tie.close (tie.spec wrt-legal-requires carried-out-requires returns)
