@@ -3,7 +3,7 @@ use Prim.Native.Nat.{ℕ, _≤_, _<_, _%_}
 use mathlib.Core.Path.{_≡_, refl, _∙_, ap}
 use mathlib.Core.Bool.{Bool, true, false, cond, _&&_}
 use lib.Dec.{leb, eqb}
-use borrow.Author.Tests.{leb-true, leb-false, eqb-true, eqb-false}
+use borrow.Author.Tests.{le-leb, leb-true, leb-false, eqb-true, eqb-false}
 use Rattle.config.specs.declared.Config.{Config}
 use Rattle.config.specs.Accepted.{Accepted, acceptedOf}
 use Rattle.config.proofs.Laws.{accepted-true, true-accepted}
@@ -13,10 +13,6 @@ use Rattle.device.specs.View.{allClosed}
 use Rattle.device.proofs.Tests.{by-test, both}
 use Rattle.ages.specs.declared.Past.{Past}
 use Rattle.ages.specs.Ages.{rowAt}
-use Rattle.queue.specs.declared.Queue.{Queue}
-use Rattle.queue.specs.Places.{heldOf}
-use Rattle.queue.specs.Sound.{insideOf, soundQueue}
-use Rattle.queue.proofs.Sound.{SoundQueue, sound-queue, queue-sound}
 use Rattle.refresh.specs.declared.Counters.{Counters}
 use Rattle.refresh.specs.Counting.{soundCounters}
 use Rattle.refresh.proofs.Counts.{Bounded, sound-bounded, bounded-sound}
@@ -25,23 +21,22 @@ use Rattle.plan.specs.declared.Control.{Control}
 use Rattle.plan.specs.Actions.{soundAction}
 use Rattle.plan.proofs.Sound.{SoundAction, sound-action, action-sound}
 use Rattle.numbers.specs.Sound.{fitBy, soundBy}
-use Rattle.numbers.specs.Tests.{stateSound}
 use Rattle.numbers.specs.Numbers.{recordNumberBy, lastNumber, roomNumberOf, requestNumberBy}
 
 -- what a sound record that is configured keeps to
-pub record SoundFacts (c : Config) (p : Past) (n : Counters) (x : Control) (q : Queue) : Type 0 where
+pub record SoundFacts (c : Config) (p : Past) (n : Counters) (x : Control) (count : ℕ) : Type 0 where
   pub accepted : Accepted c
   pub counters : Bounded (c .rr) n
-  pub action : SoundAction c (p .programmed) (allClosed (rowAt p)) (q .count) (x .action)
-  pub queue : SoundQueue (c .geometry) q
+  pub action : SoundAction c (p .programmed) (allClosed (rowAt p)) count (x .action)
+  pub few : count ≤ 8
 
 -- what an accepted request found
-pub record RequestFacts (c : Config) (p : Past) (n : Counters) (x : Control) (q : Queue) (accepted address : ℕ) : Type 0 where
-  pub sound : SoundFacts c p n x q
+pub record RequestFacts (c : Config) (p : Past) (n : Counters) (x : Control) (count : ℕ) (accepted address : ℕ) : Type 0 where
+  pub sound : SoundFacts c p n x count
   pub place : addressNumberOf (c .geometry) address ≡ 0
   pub even : address % 2 ≡ 0
   pub below : address < capacityOf (c .geometry)
-  pub room : q .count < 8
+  pub room : count < 8
   pub number : accepted < lastNumber
 
 room-facts : (queued accepted : ℕ) → roomNumberOf queued accepted ≡ 0 → (queued < 8) × (accepted < lastNumber)
@@ -54,39 +49,39 @@ room-facts queued accepted h = by-tests (leb 8 queued) (leb lastNumber accepted)
     by-tests false true e f n = absurd (eqb-false 7 0 refl n)
     by-tests false false e f n = (leb-false _ _ e, leb-false _ _ f)
 
-module _ (b : Bool) (c : Config) (p : Past) (n : Counters) (x : Control) (q : Queue) where
-  fit-true : fitBy c p n x q ≡ true → SoundFacts c p n x q
+module _ (b : Bool) (c : Config) (p : Past) (n : Counters) (x : Control) (count : ℕ) where
+  fit-true : fitBy c p n x count ≡ true → SoundFacts c p n x count
   unfolding fitBy
   fit-true h =
       let a = acceptedOf c in
       let s = soundCounters (c .rr) n in
-      let t = soundAction c (p .programmed) (allClosed (rowAt p)) (q .count) (x .action) in
-      let d = soundQueue (c .geometry) q in
-      let u = both a (s && (t && d)) h in
-      let v = both s (t && d) (u .1) in
-      let w = both t d (v .1) in
+      let d = leb count 8 in
+      let t = soundAction c (p .programmed) (allClosed (rowAt p)) count (x .action) in
+      let u = both a (s && (d && t)) h in
+      let v = both s (d && t) (u .1) in
+      let w = both d t (v .1) in
       record {
         accepted = accepted-true _ (u .0);
         counters = sound-bounded _ _ (v .0);
-        action = sound-action _ _ _ _ (x .action) (w .0);
-        queue = sound-queue _ _ (w .1);
+        few = leb-true _ _ (w .0);
+        action = sound-action _ _ _ _ (x .action) (w .1);
       }
 
-  true-fit : SoundFacts c p n x q → fitBy c p n x q ≡ true
+  true-fit : SoundFacts c p n x count → fitBy c p n x count ≡ true
   unfolding fitBy
   true-fit f =
       simp (
         true-accepted _ (f .accepted),
         bounded-sound _ _ (f .counters),
+        le-leb _ _ (f .few),
         action-sound _ _ _ _ (x .action) (f .action),
-        queue-sound _ _ (f .queue),
       )
 
-  pub sound-facts : soundBy b c p n x q ≡ true → b ≡ true → SoundFacts c p n x q
+  pub sound-facts : soundBy b c p n x count ≡ true → b ≡ true → SoundFacts c p n x count
   unfolding soundBy
   sound-facts h e = fit-true (rw e at h)
 
-  pub facts-sound : SoundFacts c p n x q → soundBy b c p n x q ≡ true
+  pub facts-sound : SoundFacts c p n x count → soundBy b c p n x count ≡ true
   unfolding soundBy
   facts-sound f = either b (true-fit f)
     where
@@ -96,35 +91,35 @@ module _ (b : Bool) (c : Config) (p : Past) (n : Counters) (x : Control) (q : Qu
 
   -- What the number 0 says, of a record and of a request.
 
-  pub record-facts : recordNumberBy b c p n x q ≡ 0 → SoundFacts c p n x q
+  pub record-facts : recordNumberBy b c p n x count ≡ 0 → SoundFacts c p n x count
   unfolding recordNumberBy
-  record-facts h = by-tests (soundBy b c p n x q) b refl refl h
+  record-facts h = by-tests (soundBy b c p n x count) b refl refl h
     where
-      by-tests : (s t : Bool) → soundBy b c p n x q ≡ s → b ≡ t → _≡_ {A = ℕ} (cond s (cond t 0 8) 9) 0 → SoundFacts c p n x q
+      by-tests : (s t : Bool) → soundBy b c p n x count ≡ s → b ≡ t → _≡_ {A = ℕ} (cond s (cond t 0 8) 9) 0 → SoundFacts c p n x count
       by-tests true true e f z = sound-facts e f
       by-tests true false e f z = absurd (eqb-false 8 0 refl z)
       by-tests false t e f z = absurd (eqb-false 9 0 refl z)
 
-  pub record-configured : recordNumberBy b c p n x q ≡ 0 → b ≡ true
+  pub record-configured : recordNumberBy b c p n x count ≡ 0 → b ≡ true
   unfolding recordNumberBy soundBy
   record-configured h = by-test b (λ e. e) (λ e. absurd (eqb-false 8 0 refl (rw e at h)))
 
-  pub facts-number : b ≡ true → SoundFacts c p n x q → recordNumberBy b c p n x q ≡ 0
+  pub facts-number : b ≡ true → SoundFacts c p n x count → recordNumberBy b c p n x count ≡ 0
   unfolding recordNumberBy
   facts-number e f = rw (facts-sound f, e)
 
-  pub request-facts : (accepted address : ℕ) → requestNumberBy b c p n x q accepted address ≡ 0 → RequestFacts c p n x q accepted address
+  pub request-facts : (accepted address : ℕ) → requestNumberBy b c p n x count accepted address ≡ 0 → RequestFacts c p n x count accepted address
   unfolding requestNumberBy
   request-facts accepted address h = by-tests (eqb first 0) (eqb second 0) refl refl h
     where
       first : ℕ
-      first = recordNumberBy b c p n x q
+      first = recordNumberBy b c p n x count
 
       second : ℕ
       second = addressNumberOf (c .geometry) address
 
-      by-tests : (s t : Bool) → eqb first 0 ≡ s → eqb second 0 ≡ t → cond s (cond t (roomNumberOf (q .count) accepted) second) first ≡ 0
-          → RequestFacts c p n x q accepted address
+      by-tests : (s t : Bool) → eqb first 0 ≡ s → eqb second 0 ≡ t → cond s (cond t (roomNumberOf count accepted) second) first ≡ 0
+          → RequestFacts c p n x count accepted address
       by-tests true true e f z =
           let a = address-good _ _ (eqb-true _ _ f) in
           let r = room-facts _ _ z in
@@ -132,42 +127,21 @@ module _ (b : Bool) (c : Config) (p : Past) (n : Counters) (x : Control) (q : Qu
       by-tests true false e f z = absurd (eqb-false _ _ f z)
       by-tests false t e f z = absurd (eqb-false _ _ e z)
 
-  pub request-record : (accepted address : ℕ) → requestNumberBy b c p n x q accepted address ≡ 0 → recordNumberBy b c p n x q ≡ 0
+  pub request-record : (accepted address : ℕ) → requestNumberBy b c p n x count accepted address ≡ 0 → recordNumberBy b c p n x count ≡ 0
   unfolding requestNumberBy
   request-record accepted address h =
-      by-test (eqb (recordNumberBy b c p n x q) 0) (λ e. eqb-true _ _ e) (λ e. absurd (eqb-false _ _ e (rw e at h)))
+      by-test (eqb (recordNumberBy b c p n x count) 0) (λ e. eqb-true _ _ e) (λ e. absurd (eqb-false _ _ e (rw e at h)))
 
-  -- The code's tests: what it tests in one, and what it tests after that.
-  fit-parts : fitBy c p n x q
-      ≡ (acceptedOf c && (stateSound c p n (x .action) (q .count) && insideOf (c .geometry) (heldOf q)))
-  unfolding fitBy stateSound soundQueue
-  fit-parts =
-      go (acceptedOf c) (soundCounters (c .rr) n) (soundAction c (p .programmed) (allClosed (rowAt p)) (q .count) (x .action)) (leb (q .count) 8)
-      (insideOf (c .geometry) (heldOf q))
-    where
-      go : (a s t d e : Bool) → (a && (s && (t && (d && e)))) ≡ (a && ((s && (d && t)) && e))
-      go false s t d e = refl
-      go true false t d e = refl
-      go true true false false e = refl
-      go true true false true e = refl
-      go true true true false e = refl
-      go true true true true e = refl
+  -- The code's tests, one after the other.
 
-  -- the number of a blank record, and of a configured one by what the tests gave
-  pub number-blank : b ≡ false → recordNumberBy b c p n x q ≡ 8
+  -- a blank record
+  pub number-blank : b ≡ false → recordNumberBy b c p n x count ≡ 8
   unfolding recordNumberBy soundBy
   number-blank e = rw e
 
-  configured-number : b ≡ true → recordNumberBy b c p n x q ≡ cond (fitBy c p n x q) 0 9
-  unfolding recordNumberBy soundBy
-  configured-number e = rw e
-
-  pub number-parts : b ≡ true → {s t d : Bool} → s ≡ acceptedOf c → t ≡ stateSound c p n (x .action) (q .count)
-      → d ≡ insideOf (c .geometry) (heldOf q)
-      → recordNumberBy b c p n x q ≡ cond (s && (t && d)) 0 9
-  number-parts e f g h = configured-number e ∙ ap (λ y. cond y 0 9) fit-parts ∙ rw (f, g, h)
-
--- what is asked of the queue's test
-pub state-few : (c : Config) (p : Past) (n : Counters) (a : Action) (count : ℕ) → stateSound c p n a count ≡ true → count ≤ 8
-unfolding stateSound
-state-few c p n a count h = leb-true _ _ (both (leb count 8) _ (both (soundCounters (c .rr) n) _ h .1) .0)
+  -- a configured one, by what the tests gave
+  pub number-parts : b ≡ true → {s t d a : Bool} → s ≡ acceptedOf c → t ≡ soundCounters (c .rr) n → d ≡ leb count 8
+      → a ≡ soundAction c (p .programmed) (allClosed (rowAt p)) count (x .action)
+      → recordNumberBy b c p n x count ≡ cond (s && (t && (d && a))) 0 9
+  unfolding recordNumberBy soundBy fitBy
+  number-parts e f g h i = rw (e, f, g, h, i)

@@ -5,14 +5,13 @@ use lib.Dec.{eqb, leb}
 use Rattle.config.specs.declared.Config.{Config}
 use Rattle.address.specs.Map.{addressNumberOf}
 use Rattle.ages.specs.declared.Past.{Past}
-use Rattle.queue.specs.declared.Queue.{Queue}
 use Rattle.refresh.specs.declared.Counters.{Counters}
 use Rattle.plan.specs.declared.Control.{Control}
 use Rattle.numbers.specs.Sound.{soundBy}
 
 -- Every call but a configuration: 9 for an unsound record, then 8 for the blank machine.
-unfoldable pub recordNumberBy : Bool → Config → Past → Counters → Control → Queue → ℕ
-recordNumberBy configured c p n x q = cond (soundBy configured c p n x q) (cond configured 0 8) 9
+unfoldable pub recordNumberBy : Bool → Config → Past → Counters → Control → ℕ → ℕ
+recordNumberBy configured c p n x count = cond (soundBy configured c p n x count) (cond configured 0 8) 9
 
 -- the most requests that are ever accepted
 abbrev pub lastNumber : ℕ
@@ -23,8 +22,8 @@ unfoldable pub roomNumberOf : ℕ → ℕ → ℕ
 roomNumberOf queued accepted = cond (leb 8 queued) 6 (cond (leb lastNumber accepted) 7 0)
 
 -- Requests: 9 and 8, then 4 and 5 for the address, then 6 and 7.
-unfoldable pub requestNumberBy : Bool → Config → Past → Counters → Control → Queue → ℕ → ℕ → ℕ
-requestNumberBy configured c p n x q accepted address =
-    cond (eqb (recordNumberBy configured c p n x q) 0)
-    (cond (eqb (addressNumberOf (c .geometry) address) 0) (roomNumberOf (q .count) accepted) (addressNumberOf (c .geometry) address))
-    (recordNumberBy configured c p n x q)
+unfoldable pub requestNumberBy : Bool → Config → Past → Counters → Control → ℕ → ℕ → ℕ → ℕ
+requestNumberBy configured c p n x count accepted address =
+    cond (eqb (recordNumberBy configured c p n x count) 0)
+    (cond (eqb (addressNumberOf (c .geometry) address) 0) (roomNumberOf count accepted) (addressNumberOf (c .geometry) address))
+    (recordNumberBy configured c p n x count)

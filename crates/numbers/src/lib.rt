@@ -2,47 +2,24 @@
 use ages::Past;
 use config::Config;
 use plan::Control;
-use queue::Queue;
 use refresh::Counters;
 ghost use mathlib.Core.Path.{_≡_};
-ghost use Rattle.numbers.specs.Tests.{stateSound};
 ghost use Rattle.numbers.specs.Numbers.{recordNumberBy, roomNumberOf, requestNumberBy};
 
 // The most requests that are ever accepted.
 const LAST: u32 = 4294967295;
 
-// Soundness, the test for number 9; docs/SOUNDNESS.md says it in words. It is made on parts of the machine, so that the machine is not copied for it.
-
-// All of it but the configuration and the queued cells: the counters, the number of requests, the action under way.
-pub fn state_sound(
-    config: Config,
-    past: Past,
-    counters: Counters,
-    control: Control,
-    count: usize,
-) -> bool
-    ensures { λ r. ⌜ r ≡ stateSound config past counters (control .action) count ⌝ }
-{
-    if !counters.sound(config.rr) {
-        return false;
-    }
-    if 8 < count {
-        return false;
-    }
-    let action = control.action;
-    actions::action_sound(config, past, count, action)
-}
-
-// What every call tests first: 9, then 8. `Machine::slot` makes these tests itself.
+// What every call tests first: 9 for an unsound record (docs/SOUNDNESS.md), then 8. It looks at parts of the machine, so that the machine is not
+// copied for it; of the queue it needs the number of requests.
 pub fn record_number(
     configured: bool,
     config: Config,
     past: Past,
     counters: Counters,
     control: Control,
-    queue: Queue,
+    count: usize,
 ) -> u8
-    ensures { λ r. ⌜ r ≡ recordNumberBy configured config past counters control queue ⌝ }
+    ensures { λ r. ⌜ r ≡ recordNumberBy configured config past counters control count ⌝ }
 {
     if !configured {
         return 8;
@@ -50,10 +27,14 @@ pub fn record_number(
     if !config::accepted(config) {
         return 9;
     }
-    if !state_sound(config, past, counters, control, queue.count) {
+    if !counters.sound(config.rr) {
         return 9;
     }
-    if queue.inside(config.geometry) {
+    if 8 < count {
+        return 9;
+    }
+    let action = control.action;
+    if actions::action_sound(config, past, count, action) {
         return 0;
     }
     9
@@ -79,13 +60,13 @@ pub fn request_number(
     past: Past,
     counters: Counters,
     control: Control,
-    queue: Queue,
+    count: usize,
     accepted: u32,
     address: u32,
 ) -> u8
-    ensures { λ r. ⌜ r ≡ requestNumberBy configured config past counters control queue accepted address ⌝ }
+    ensures { λ r. ⌜ r ≡ requestNumberBy configured config past counters control count accepted address ⌝ }
 {
-    let first = record_number(configured, config, past, counters, control, queue);
+    let first = record_number(configured, config, past, counters, control, count);
     if first != 0 {
         return first;
     }
@@ -93,5 +74,5 @@ pub fn request_number(
     if second != 0 {
         return second;
     }
-    room_number(queue.count, accepted)
+    room_number(count, accepted)
 }

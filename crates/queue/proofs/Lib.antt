@@ -7,5 +7,4 @@ pub mod Oldest
 pub mod Consistent
 pub mod Memory
 pub mod Numbers
-pub mod Sound
 pub mod Examples

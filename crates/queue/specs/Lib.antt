@@ -2,4 +2,3 @@
 pub mod Places
 pub mod Oldest
 pub mod Memory
-pub mod Sound
