@@ -10,7 +10,7 @@ use borrow.Author.Tests.{leb-false}
 use Rattle.config.specs.declared.Config.{Config}
 use Rattle.config.specs.Accepted.{Accepted}
 use Rattle.address.specs.declared.Row.{Row}
-use Rattle.address.specs.Map.{Holds}
+use Rattle.address.specs.declared.Cell.{Cell}
 use Rattle.command.specs.declared.Command.{Command}
 use Rattle.command.specs.declared.Command.the-variants.{Nop, Act, Pre, Deac, Refr, Mrs}
 use Rattle.device.specs.View.{allClosed}
@@ -25,7 +25,6 @@ use Rattle.queue.specs.declared.Request.{Request}
 use Rattle.queue.specs.Places.{cellHeld, heldOf, getOf, acceptOf}
 use Rattle.queue.specs.Oldest.{oldestOf}
 use Rattle.queue.proofs.Oldest.{oldest-found}
-use Rattle.queue.proofs.Sound.{SoundQueue}
 use Rattle.refresh.specs.declared.Counters.{Counters}
 use Rattle.refresh.specs.Urgency.{levelOf, runOf}
 use Rattle.refresh.proofs.Counts.{Bounded, bounded-tick, bounded-refreshed}
@@ -71,7 +70,7 @@ use Rattle.plan.proofs.Sound.{SoundAction}
 use Rattle.numbers.proofs.Laws.{SoundFacts}
 use Rattle.soundness.proofs.Plans.{Served, performedOf, servedOf, sending, performed-both, rest-only}
 use Rattle.soundness.proofs.Past.{programmed-kept, mrs-programmed, nop-closed, refr-closed, deac-closed}
-use Rattle.soundness.proofs.Queue.{accept-sound, accept-more, remove-sound}
+use Rattle.soundness.proofs.Queue.{accept-more, accept-few, remove-few}
 
 -- a sound action on a record's past and queue
 abbrev Sound : Config → Past → Queue → Action → Type 0
@@ -127,26 +126,26 @@ module _ {c : Config} (ok : Accepted c) (p : Past) (q : Queue) where
     unfolding tries
     goes-on k = performed-both c p (Leaves c q (Access i)) (tries k (Access i) (Access i)) (λ e. accessing k) (λ e. accessing Nop)
 
-    transfers : (r : Request) (kind : Kind) → Leaves c q (Access i) (performedOf c p (transferPlan c i r kind))
+    transfers : (r : Request) (x : Cell) (kind : Kind) → Leaves c q (Access i) (performedOf c p (transferPlan c i r x kind))
     unfolding transferPlan readPlan writePlan tries
-    transfers r Kind.Read =
-        performed-both c p (Leaves c q (Access i)) (readPlan c i r)
+    transfers r x Kind.Read =
+        performed-both c p (Leaves c q (Access i)) (readPlan c i x)
         (λ e.
-        quiet (Command.Read (r .bank) (r .column)) (CasLatency i (c .latency))
+        quiet (Command.Read (x .bank) (x .column)) (CasLatency i (c .latency))
         (programmed-kept p _ programmed, queued, omega (arith, ok .latency-least), omega arith) (λ e. refl))
         (λ e. accessing Nop)
-    transfers r Kind.Write =
-        performed-both c p (Leaves c q (Access i)) (writePlan i r)
+    transfers r x Kind.Write =
+        performed-both c p (Leaves c q (Access i)) (writePlan i r x)
         (λ e. record { sound = programmed-kept p _ programmed; service = λ e. refl })
         (λ e. accessing Nop)
 
-    accesses : (r : Request) (x : Option Row) → Leaves c q (Access i) (performedOf c p (accessPlan c x i r))
+    accesses : (r : Request) (x : Cell) (open-row : Option Row) → Leaves c q (Access i) (performedOf c p (accessPlan c open-row i r x))
     unfolding accessPlan
-    accesses r none = goes-on (Act (r .bank) (r .row))
-    accesses r (some x) =
-        if-both (λ y. Leaves c q (Access i) (performedOf c p y)) (eqb (x .0) (r .row .0))
-        (λ e. transfers r (r .kind))
-        (λ e. goes-on (Pre (r .bank)))
+    accesses r x none = goes-on (Act (x .bank) (x .row))
+    accesses r x (some y) =
+        if-both (λ plan. Leaves c q (Access i) (performedOf c p plan)) (eqb (y .0) (x .row .0))
+        (λ e. transfers r x (r .kind))
+        (λ e. goes-on (Pre (x .bank)))
 
   awaits : (i left : ℕ) (r : Request) (bus : ℕ) → Sound c p q (CasLatency i left) → Leaves c q (CasLatency i left) (performedOf c p (latencyPlan i left r bus))
   unfolding latencyPlan takenPlan
@@ -192,7 +191,9 @@ module _ {c : Config} (ok : Accepted c) (p : Past) (q : Queue) where
       (λ e. quiet Nop InitMode (nop-closed p ∙ s) (λ e. e))
   served InitSettle s bus = rests Idle (programmed-kept p Nop s) (λ e. refl)
   served Idle s bus = rests Idle (programmed-kept p Nop s) (λ e. refl)
-  served (Access i) s bus = accesses i (s .0) (s .1) (getOf q i) (rowAt p (getOf q i .bank .0))
+  served (Access i) s bus =
+      let x = cellHeld (c .geometry) (getOf q i) in
+      accesses i (s .0) (s .1) (getOf q i) x (rowAt p (x .bank .0))
   served (CasLatency i left) s bus = awaits i left (getOf q i) bus s
   served Turnaround s bus = rests Idle (programmed-kept p Nop s) (λ e. refl)
   served PrechargeAll s bus =
@@ -244,7 +245,7 @@ idle-programmed c p q PrechargeAll e s = absurd (false≢true e)
 idle-programmed c p q Refresh e s = absurd (false≢true e)
 idle-programmed c p q (RefreshCycle left) e s = absurd (false≢true e)
 
-module _ {c : Config} {p : Past} {n : Counters} {x : Control} {q : Queue} (f : SoundFacts c p n x q) (bus : ℕ) where
+module _ {c : Config} {p : Past} {n : Counters} {x : Control} (q : Queue) (f : SoundFacts c p n x (q .count)) (bus : ℕ) where
   ticked : Counters
   ticked = tickedOf c n (x .action)
 
@@ -256,7 +257,7 @@ module _ {c : Config} {p : Past} {n : Counters} {x : Control} {q : Queue} (f : S
   After y =
       let s = servedOf c p (getOf (y .queue) (underWay (y .control .action))) (y .control .action) bus in
       SoundFacts c (s .past) (countersAfter ticked (s .outcome .refreshes)) (record { action = s .outcome .action; must = y .control .must })
-      (queueAfter (y .queue) (underWay (y .control .action)) (s .outcome .leaves))
+      (queueAfter (y .queue) (underWay (y .control .action)) (s .outcome .leaves) .count)
       × (inService (x .action) ≡ true → inService (s .outcome .action) ≡ true)
 
   after : (a : Action) (must : Bool) → Sound c p q a → (inService (x .action) ≡ true → inService a ≡ true)
@@ -269,7 +270,7 @@ module _ {c : Config} {p : Past} {n : Counters} {x : Control} {q : Queue} (f : S
           accepted = f .accepted;
           counters = if-both (Bounded (c .rr)) (s .outcome .refreshes) (λ e. bounded-refreshed ticked-bounded) (λ e. ticked-bounded);
           action = l .sound;
-          queue = if-both (SoundQueue (c .geometry)) (s .outcome .leaves) (λ e. remove-sound (f .queue) (underWay a)) (λ e. f .queue);
+          few = if-both (λ (y : Queue). y .count ≤ 8) (s .outcome .leaves) (λ e. remove-few q (underWay a) (f .few)) (λ e. f .few);
         },
         λ e. l .service (serving e),
       )
@@ -290,7 +291,7 @@ module _ {c : Config} {p : Past} {n : Counters} {x : Control} {q : Queue} (f : S
 
   -- a slot gives a sound record, in service if it was
   pub slot-sound : let t = turnOf c (byAges c p) n x q bus in
-      SoundFacts c (sentOf p (t .command)) (t .counters) (t .control) (t .queue) × (inService (x .action) ≡ true → inService (t .control .action) ≡ true)
+      SoundFacts c (sentOf p (t .command)) (t .counters) (t .control) (t .queue .count) × (inService (x .action) ≡ true → inService (t .control .action) ≡ true)
   unfolding turnOf ticked servedOf performedOf
   slot-sound = current (tickedOf c n (x .action) .backlog) (allClosed (rowAt p))
 
@@ -311,12 +312,12 @@ action-more c programmed closed PrechargeAll h s = s
 action-more c programmed closed Refresh h s = s
 action-more c programmed closed (RefreshCycle left) h s = s
 
-pub accepted-sound : {c : Config} {p : Past} {n : Counters} {x : Control} {q : Queue} → SoundFacts c p n x q → (r : Request) → q .count < 8
-    → Holds (c .geometry) (cellHeld r) → SoundFacts c p n x (acceptOf q r)
-accepted-sound {c} {p} {n} {x} {q} f r room h =
+pub accepted-sound : {c : Config} {p : Past} {n : Counters} {x : Control} (q : Queue) → SoundFacts c p n x (q .count) → (r : Request)
+    → SoundFacts c p n x (acceptOf q r .count)
+accepted-sound {c} {p} {n} {x} q f r =
     record {
       accepted = f .accepted;
       counters = f .counters;
+      few = accept-few q r (f .few);
       action = action-more c (p .programmed) (allClosed (rowAt p)) (x .action) (accept-more q r) (f .action);
-      queue = accept-sound (f .queue) r room h;
     }
