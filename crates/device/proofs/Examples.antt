@@ -207,6 +207,53 @@ refreshing =
     ∷ legal 33 Deac
     ∷ []
 
+-- CL 3, tWR 8, and all other distances 1
+abbrev pub recovering : Config
+recovering =
+    record {
+      geometry = record { columns = 8; banks = 2; rows = 13 };
+      latency = 3;
+      rfc = 1;
+      rp = 1;
+      rcd = 1;
+      wr = 8;
+      ras = 1;
+      rc = 1;
+      rrd = 1;
+      rr = 0;
+      access = 0;
+      refresh = 0;
+    }
+
+-- what starts no distance: a WRT soon after MRS, ACT, PRE, DEAC and REFR, none of which is a READ; a PRE soon after MRS, ACT, READ, its own PRE,
+-- DEAC and REFR, none of which is a WRT to its bank; an ACT right after a READ
+abbrev pub unstarted : List Try
+unstarted =
+    legal 1 (Mrs 48)
+    ∷ legal 3 (act 0 0)
+    ∷ legal 4 (wrt 0 0)
+    ∷ legal 5 (act 1 0)
+    ∷ legal 6 (pre 1)
+    ∷ legal 7 (wrt 0 1)
+    ∷ legal 8 (act 1 0)
+    ∷ legal 9 (rd 1 0)
+    ∷ legal 10 (pre 1)
+    ∷ breaks 14 Deac 13 0
+    ∷ legal 15 Deac
+    ∷ legal 16 (act 0 1)
+    ∷ legal 17 (wrt 0 0)
+    ∷ legal 18 (act 1 1)
+    ∷ legal 19 (pre 1)
+    ∷ legal 25 (pre 0)
+    ∷ legal 26 Refr
+    ∷ legal 27 (act 0 2)
+    ∷ legal 28 (wrt 0 0)
+    ∷ legal 29 (act 1 2)
+    ∷ legal 30 (pre 1)
+    ∷ legal 31 (rd 0 0)
+    ∷ legal 32 (act 1 3)
+    ∷ []
+
 -- a device and what is tried on it
 pub record Run : Type 0 where
   pub config : Config
@@ -215,13 +262,15 @@ pub record Run : Type 0 where
 abbrev run : Config → List Try → Run
 run c ts = record { config = c; tries = ts }
 
--- the fourth has a tRFC below tRP, and the fifth one bank
+-- the fifth and sixth have a tRFC below tRP, and the last one bank
 unfoldable pub runs : List Run
 runs =
     run (device 2 9) tries
     ∷ run unlike distances
     ∷ run (device 2 32) refreshing
+    ∷ run recovering unstarted
     ∷ run (device 2 1) (legal 1 Refr ∷ legal 2 Refr ∷ legal 3 (Mrs 48) ∷ [])
+    ∷ run (device 2 1) (legal 1 (Mrs 48) ∷ legal 3 Refr ∷ legal 4 (act 0 0) ∷ [])
     ∷ run (device 0 9) (legal 1 (Mrs 48) ∷ breaks 3 (act 1 0) 1 0 ∷ legal 4 (act 0 0) ∷ [])
     ∷ []
 

@@ -110,16 +110,14 @@ table =
     -- E9
     ∷ row (bus 0x4620 4 136 0x42215810 (read 0 ∷ []) 1174 1166)
     (events (sent 1166 (ACT 0 0) ∷ sent 1169 (READ 0 0) ∷ told 1172 (readDone 1 7) ∷ free 1174 ∷ []))
-    -- not the paper's: E7 and E8 in one, on the machine whose distances differ; its first service slot is 1591
-    ∷ row (bus 0x4612 4 185 0x63175a40 (write 0 1 ∷ write 0x1000 2 ∷ write 0x800 3 ∷ []) 1613 1)
+    -- not the paper's: E7, E8 and E9 in one, on the machine whose distances differ; its first service slot is 1591
+    ∷ row (bus 0x4612 4 185 0x63175a40 (write 0 1 ∷ write 0x1000 2 ∷ write 0x800 3 ∷ read 0x2000 ∷ []) 1624 1)
     (events
     (sent 1481 Deac ∷ sent 1485 Refr ∷ sent 1498 Refr ∷ sent 1511 Refr ∷ sent 1524 Refr ∷ sent 1537 Refr ∷ sent 1550 Refr ∷ sent 1563 Refr ∷ sent 1576 Refr ∷ sent 1589 (Mrs 48)
-    ∷ sent 1591 (ACT 0 0) ∷ sent 1593 (WRT 0 0 1) ∷ told 1593 (writeDone 1) ∷ free 1594
-    ∷ sent 1601 (PRE 0) ∷ sent 1605 (ACT 0 1) ∷ sent 1607 (WRT 0 0 2) ∷ told 1607 (writeDone 2) ∷ free 1608
-    ∷ sent 1610 (ACT 1 0) ∷ sent 1612 (WRT 1 0 3) ∷ told 1612 (writeDone 3) ∷ free 1613 ∷ []))
-    -- and E9
-    ∷ row (bus 0x4612 4 185 0x63175a40 (read 0x800 ∷ []) 1598 1591)
-    (events (sent 1591 (ACT 1 0) ∷ sent 1593 (READ 1 0) ∷ told 1596 (readDone 1 7) ∷ free 1598 ∷ []))
+    ∷ sent 1591 (ACT 0 2) ∷ sent 1593 (READ 0 0) ∷ told 1596 (readDone 4 7) ∷ free 1598
+    ∷ sent 1598 (PRE 0) ∷ sent 1602 (ACT 0 0) ∷ sent 1604 (WRT 0 0 1) ∷ told 1604 (writeDone 1) ∷ free 1605
+    ∷ sent 1612 (PRE 0) ∷ sent 1616 (ACT 0 1) ∷ sent 1618 (WRT 0 0 2) ∷ told 1618 (writeDone 2) ∷ free 1619
+    ∷ sent 1621 (ACT 1 0) ∷ sent 1623 (WRT 1 0 3) ∷ told 1623 (writeDone 3) ∷ free 1624 ∷ []))
     -- E10, on E4's machine (document 01 names none): read 0x800, write 0, read 0
     ∷ row (order 0x4620 4 136 0x42215810 (write 0 1 ∷ read 0 ∷ read 0x800 ∷ []) 1226) (numbers (3 ∷ 1 ∷ 2 ∷ []))
     -- E11, on E4's machine too: the read waits

@@ -104,23 +104,9 @@ pub record ClosedRun : Type 0 where
   pub stored-nine : world (opening ++ (busy ++ rest)) .sdram .cells (cellAt 0 0 0) ≡ 9
   -- and the refreshes were made up for
   pub refreshed : refreshes (machine .config) (world (opening ++ (busy ++ rest))) ≡ 15
-  -- slot 551 sees a backlog of 12, which is in the bounds that are claimed
-  pub twelve : expiries (machine .config) (brim .sdram .log .now + 1) - refreshes (machine .config) brim ≡ 12
-  pub within : InBounds (expiries (machine .config) (brim .sdram .log .now + 1) - refreshes (machine .config) brim)
-  -- the first read's halfword is what the address held before the write, though the write was accepted before its report; the last read's is
-  -- the write's; and these reports are as claimed
-  pub told :
-      map (λ w. completionOf (slotIn w 0 .report)) (chain 230 ∷ chain 232 ∷ chain 235 ∷ [])
-      ≡ some (readDone 1 5) ∷ some (writeDone 2) ∷ some (readDone 3 9) ∷ []
-  pub read-reported : Reports (chain 230) (slotIn (chain 230) 0 .report)
-  pub reread-reported : Reports (chain 235) (slotIn (chain 235) 0 .report)
-  -- each request was reported once, and both memories have the write's halfword, in column 1
-  pub once : chain 236 .reported ≡ 3 ∷ 2 ∷ 1 ∷ []
-  pub flat-nine : chain 236 .flat .contents 2 ≡ 9
-  pub cells-nine : chain 236 .sdram .cells (cellAt 0 0 1) ≡ 9
 
 pub closed-run : ClosedRun
-unfolding firstService expiriesOf times machine world opening busy rest brim chain settingOf reservedAll reservedMap offeredOf checkedOf configOf geometryOf addressNumberOf capacityOf cellOf holdsOf allClosed marksOf rowOf R7 R12-open R13-open R14 requirements legalOf last openRow startLog fed freshOf openedOf rowIn rowAt agedOf agesAfter sentOf carriedOf without emptyOf acceptOf removeOf getOf blockedOf readyOf oldestOf soundQueue startOf tickOf refreshedOf soundCounters levelOf soundAction plan.quietly plan.outcomeOf plan.tries plan.rest plan.afterPause plan.afterInitRefresh plan.readPlan plan.writePlan plan.transferPlan plan.accessPlan plan.takenPlan plan.latencyPlan plan.cycleLeft plan.refreshPlan plan.planOf plan.queueAfter plan.countersAfter rulesOf choiceOf currentOf tickedOf turnOf blankOf machineOf stepOf fitBy soundBy configAccepted shapedOf distancesOf spannedOf configuredBy configureOf recordNumberBy roomNumberOf requestNumberBy queuedRequest enqueuedOf requestOf slotOf stored startSdram cellsAfter drivenAfter takes sdramAfter startFlat taken flatAfter startWorld busOf slotIn afterSlot afterRequest after played
+unfolding firstService times machine world opening busy rest settingOf reservedAll reservedMap offeredOf checkedOf configOf geometryOf addressNumberOf capacityOf cellOf holdsOf allClosed marksOf rowOf R7 R12-open R13-open R14 requirements legalOf last openRow startLog fed freshOf openedOf rowIn rowAt agedOf agesAfter sentOf carriedOf without emptyOf acceptOf removeOf getOf blockedOf readyOf oldestOf soundQueue startOf tickOf refreshedOf soundCounters levelOf soundAction plan.quietly plan.outcomeOf plan.tries plan.rest plan.afterPause plan.afterInitRefresh plan.readPlan plan.writePlan plan.transferPlan plan.accessPlan plan.takenPlan plan.latencyPlan plan.cycleLeft plan.refreshPlan plan.planOf plan.queueAfter plan.countersAfter rulesOf choiceOf currentOf tickedOf turnOf blankOf machineOf stepOf fitBy soundBy configAccepted shapedOf distancesOf spannedOf configuredBy configureOf recordNumberBy roomNumberOf requestNumberBy queuedRequest enqueuedOf requestOf slotOf stored startSdram cellsAfter drivenAfter takes sdramAfter startFlat taken flatAfter startWorld busOf slotIn afterSlot afterRequest after played
 closed-run =
     record {
       odd = refl;
@@ -132,11 +118,38 @@ closed-run =
       last-two = refl;
       stored-nine = refl;
       refreshed = refl;
+    }
+
+-- What is claimed, at closed places.
+pub record ClosedClaim : Type 0 where
+  -- slot 551 sees a backlog of 12, which is in the bounds that are claimed
+  pub twelve : expiries (machine .config) (brim .sdram .log .now + 1) - refreshes (machine .config) brim ≡ 12
+  pub within : InBounds (expiries (machine .config) (brim .sdram .log .now + 1) - refreshes (machine .config) brim)
+  -- the first read's halfword is what the address held before the write, though the write was accepted before its report; the last read's is
+  -- the write's; and these reports are as claimed
+  pub told :
+      map (λ w. completionOf (slotIn w 0 .report)) (chain 230 ∷ chain 232 ∷ chain 235 ∷ [])
+      ≡ some (readDone 1 5) ∷ some (writeDone 2) ∷ some (readDone 3 9) ∷ []
+  pub read-reported : Reports (chain 230) (slotIn (chain 230) 0 .report)
+  pub reread-reported : Reports (chain 235) (slotIn (chain 235) 0 .report)
+  -- then three requests were accepted, none waits, each was reported once; and both memories have the write's halfword, the cells in column 1
+  pub accepted : chain 236 .flat .count ≡ 3
+  pub waiting : chain 236 .machine .queue .count ≡ 0
+  pub once : chain 236 .reported ≡ 3 ∷ 2 ∷ 1 ∷ []
+  pub flat-nine : chain 236 .flat .contents 2 ≡ 9
+  pub cells-nine : chain 236 .sdram .cells (cellAt 0 0 1) ≡ 9
+
+pub closed-claim : ClosedClaim
+unfolding firstService expiriesOf times machine world opening brim chain settingOf reservedAll reservedMap offeredOf checkedOf configOf geometryOf addressNumberOf capacityOf cellOf holdsOf allClosed marksOf rowOf R7 R12-open R13-open R14 requirements legalOf last openRow startLog fed freshOf openedOf rowIn rowAt agedOf agesAfter sentOf carriedOf without emptyOf acceptOf removeOf getOf blockedOf readyOf oldestOf soundQueue startOf tickOf refreshedOf soundCounters levelOf soundAction plan.quietly plan.outcomeOf plan.tries plan.rest plan.afterPause plan.afterInitRefresh plan.readPlan plan.writePlan plan.transferPlan plan.accessPlan plan.takenPlan plan.latencyPlan plan.cycleLeft plan.refreshPlan plan.planOf plan.queueAfter plan.countersAfter rulesOf choiceOf currentOf tickedOf turnOf blankOf machineOf stepOf fitBy soundBy configAccepted shapedOf distancesOf spannedOf configuredBy configureOf recordNumberBy roomNumberOf requestNumberBy queuedRequest enqueuedOf requestOf slotOf stored startSdram cellsAfter drivenAfter takes sdramAfter startFlat taken flatAfter startWorld busOf slotIn afterSlot afterRequest after played
+closed-claim =
+    record {
       twelve = refl;
       within = leb-true _ _ refl;
       told = refl;
       read-reported = (record { least = leb-true _ _ refl; accepted = leb-true _ _ refl; new = absent-not _ _ refl; of-kind = refl }, refl);
       reread-reported = (record { least = leb-true _ _ refl; accepted = leb-true _ _ refl; new = absent-not _ _ refl; of-kind = refl }, refl);
+      accepted = refl;
+      waiting = refl;
       once = refl;
       flat-nine = refl;
       cells-nine = refl;

@@ -409,3 +409,19 @@ counters-first : (next (control Idle false) (record { interval = 1; backlog = 3 
     × (counted (control InitSettle false) (record { interval = 1; backlog = 3 }) 0 ≡ record { interval = 1; backlog = 3 })
 unfolding configOf geometryOf act ready control counted next logged turnOf tickedOf currentOf choiceOf rulesOf planOf rest tries outcomeOf quietly queueAfter countersAfter tickOf levelOf emptyOf getOf oldestOf fed startLog last openRow legalOf carriedOf requirements R7 R12-open R13-open R14 allClosed marksOf rowOf
 counters-first = (refl, refl, refl, refl)
+
+-- A slot sees whether all banks are closed, and keeps the Must run flag as of its choice; where no choice is made, the flag stays.
+
+after : List Command → Control → ℕ → Control
+after ks x b = turnOf tight (byHistory tight (logged tight startLog ks)) (record { interval = 9; backlog = b }) x emptyOf 0 .control
+
+flags : after (ready 32) (control Idle false) 3
+    ∷ after (ready 32 ++ act 0 2 ∷ []) (control Idle false) 3
+    ∷ after (ready 32) (control Idle false) 12
+    ∷ after (ready 32) (control Idle true) 8
+    ∷ after (ready 32) (control Idle true) 0
+    ∷ after (ready 32) (control Turnaround true) 0
+    ∷ []
+    ≡ control Refresh false ∷ control Idle false ∷ control Refresh true ∷ control Refresh true ∷ control Idle false ∷ control Idle true ∷ []
+unfolding configOf geometryOf act ready control after logged turnOf tickedOf currentOf choiceOf rulesOf planOf rest tries outcomeOf quietly queueAfter countersAfter tickOf levelOf emptyOf getOf oldestOf fed startLog last openRow legalOf carriedOf requirements R7 R12-open R13-open R14 allClosed marksOf rowOf
+flags = refl
