@@ -1,6 +1,6 @@
 -- A sound record as facts, both ways; what the number 0 says of a record and of a request; and the code's tests.
 use Prim.Native.Nat.{ℕ, _≤_, _<_, _%_}
-use mathlib.Core.Path.{_≡_, refl, _∙_, ap}
+use mathlib.Core.Path.{_≡_, refl}
 use mathlib.Core.Bool.{Bool, true, false, cond, _&&_}
 use lib.Dec.{leb, eqb}
 use borrow.Author.Tests.{le-leb, leb-true, leb-false, eqb-true, eqb-false}
@@ -16,7 +16,6 @@ use Rattle.ages.specs.Ages.{rowAt}
 use Rattle.refresh.specs.declared.Counters.{Counters}
 use Rattle.refresh.specs.Counting.{soundCounters}
 use Rattle.refresh.proofs.Counts.{Bounded, sound-bounded, bounded-sound}
-use Rattle.plan.specs.declared.Action.{Action}
 use Rattle.plan.specs.declared.Control.{Control}
 use Rattle.plan.specs.Actions.{soundAction}
 use Rattle.plan.proofs.Sound.{SoundAction, sound-action, action-sound}

@@ -8,7 +8,7 @@ use Rattle.config.specs.declared.Config.{Config}
 use Rattle.words.specs.Words.{reservedMap, reservedAll}
 use Rattle.config.specs.Setting.{offeredOf, geometryOf, configOf, checkedOf, settingOf}
 use Rattle.config.specs.Accepted.{acceptedOf as configAccepted, shapedOf, distancesOf, spannedOf}
-use Rattle.address.specs.Map.{cellAt, capacityOf, cellOf, holdsOf, addressNumberOf}
+use Rattle.address.specs.Map.{capacityOf, cellOf, holdsOf, addressNumberOf}
 use Rattle.command.specs.declared.Command.{Command}
 use Rattle.command.specs.declared.Command.the-variants.{Nop, Deac, Refr}
 use Rattle.device.specs.View.{allClosed, marksOf, rowOf}
@@ -20,7 +20,6 @@ use Rattle.queue.specs.declared.Request.{Request}
 use Rattle.queue.specs.declared.Queue.{Queue}
 use Rattle.queue.specs.Places.{requestFor, emptyOf, acceptOf, removeOf, getOf, without}
 use Rattle.queue.specs.Oldest.{blockedOf, readyOf, oldestOf}
-use Rattle.queue.specs.Sound.{soundQueue}
 use Rattle.refresh.specs.declared.Counters.{Counters}
 use Rattle.refresh.specs.Counting as counting
 use Rattle.refresh.specs.Urgency.{levelOf}
@@ -114,12 +113,9 @@ known opened =
 abbrev counted : ℕ → ℕ → Counters
 counted i b = record { interval = i; backlog = b }
 
--- request n, of a cell, and of row 1, column 0
-abbrev askAt : Kind → ℕ → ℕ → ℕ → ℕ → ℕ → Request
-askAt k n a b r c = requestFor k n a (cellAt b r c) 7
-
+-- request n, of row 1, column 0
 abbrev ask : Kind → ℕ → Request
-ask k n = askAt k n 512 0 1 0
+ask k n = requestFor k n 512 7
 
 -- n writes are queued; one read is
 abbrev filled : ℕ → Queue
@@ -142,8 +138,9 @@ serving p n must q a = made e1 p n must q a 8
 abbrev at : Config → Counters → Queue → Action → Machine
 at c n q a = made c (known false) n false q a 8
 
-abbrev holding : ℕ → ℕ → ℕ → Machine
-holding b r c = at e1 (counted 27 0) (acceptOf emptyOf (askAt Kind.Read 1 0 b r c)) Idle
+-- a request of an address that the device does not have
+abbrev beyond : Machine
+beyond = at e1 (counted 27 0) (acceptOf emptyOf (requestFor Kind.Read 1 4294967295 7)) Idle
 
 -- before any MRS, with a queue and an action
 abbrev early : Queue → Action → Machine
@@ -176,7 +173,7 @@ sound =
     ∷ at e1 (counted 27 0) emptyOf Refresh
     ∷ at cycling (counted 39 0) emptyOf (RefreshCycle 1)
     ∷ at cycling (counted 39 0) emptyOf (RefreshCycle 2)
-    ∷ holding 0 511 255
+    ∷ beyond
     ∷ []
 
 unsound : List Machine
@@ -214,9 +211,6 @@ unsound =
     ∷ at e1 (counted 27 0) (record { places = replicate 8 (ask Kind.Read 1); count = 9 }) Idle
     ∷ at e1 (counted 27 0) (filled 2) (Access 2)
     ∷ at e1 (counted 27 0) (filled 2) (CasLatency 2 1)
-    ∷ holding 1 511 255
-    ∷ holding 0 512 255
-    ∷ holding 0 511 256
     ∷ []
 
 -- Configuration: E1's words; an unnamed bit in each word, also where a field is not offered; fields that are not; RR 26.
@@ -327,7 +321,7 @@ slots =
 
 -- `room`: a queue of eight that one request has left has room for one. `last`: the last number is given.
 record Examples : Type 0 where
-  soundness : map soundOf sound ++ map soundOf unsound ≡ replicate 22 true ++ replicate 33 false
+  soundness : map soundOf sound ++ map soundOf unsound ≡ replicate 22 true ++ replicate 30 false
   configured : words ≡ record { number = 0; machine = machineOf e1 } ∷ map refused (1 ∷ 1 ∷ 1 ∷ 1 ∷ 2 ∷ 2 ∷ 3 ∷ [])
   reads : map (λ f. readRequestOf (f .machine) (f .address)) refusals ≡ map unchanged refusals
   writes : map (λ f. writeRequestOf (f .machine) (f .address) 7) refusals ≡ map unchanged refusals
@@ -340,7 +334,7 @@ record Examples : Type 0 where
         number = 0;
         request = 4294967295;
         machine = made e1 (known false) (counted 27 0) true
-            (acceptOf emptyOf (requestFor Kind.Read 4294967295 262142 (cellAt 0 511 255) 0))
+            (acceptOf emptyOf (requestFor Kind.Read 4294967295 262142 0))
             Turnaround 4294967295;
       }
   steps : map (λ r. slotOf (r .machine) (r .bus)) slots ≡ map (λ r. r .given) slots
@@ -349,5 +343,5 @@ record Examples : Type 0 where
       ≡ record { number = 9; backlog = 0 } ∷ record { number = 8; backlog = 0 } ∷ record { number = 0; backlog = 0 } ∷ record { number = 0; backlog = 15 } ∷ []
 
 examples : Examples
-unfolding sound unsound refusals slots configuredBy configureOf recordNumberBy roomNumberOf requestNumberBy queuedRequest enqueuedOf requestOf refusedWith slotOf backlogOf blankOf machineOf stepOf configAccepted shapedOf distancesOf spannedOf fitBy soundBy soundAction soundQueue reservedMap reservedAll offeredOf geometryOf configOf checkedOf settingOf capacityOf cellOf holdsOf addressNumberOf allClosed marksOf rowOf legalOf requirements R7 R12-open R13-open R14 freshOf openedOf rowIn rowAt agedOf agesAfter sentOf carriedOf emptyOf acceptOf removeOf getOf without blockedOf readyOf oldestOf counting.startOf counting.tickOf counting.refreshedOf counting.soundCounters levelOf plan.quietly plan.outcomeOf plan.tries plan.rest plan.afterPause plan.afterInitRefresh plan.readPlan plan.writePlan plan.transferPlan plan.accessPlan plan.takenPlan plan.latencyPlan plan.cycleLeft plan.refreshPlan plan.planOf plan.queueAfter plan.countersAfter choice.rulesOf choice.choiceOf choice.currentOf tickedOf turnOf
+unfolding sound unsound refusals slots configuredBy configureOf recordNumberBy roomNumberOf requestNumberBy queuedRequest enqueuedOf requestOf refusedWith slotOf backlogOf blankOf machineOf stepOf configAccepted shapedOf distancesOf spannedOf fitBy soundBy soundAction reservedMap reservedAll offeredOf geometryOf configOf checkedOf settingOf capacityOf cellOf holdsOf addressNumberOf allClosed marksOf rowOf legalOf requirements R7 R12-open R13-open R14 freshOf openedOf rowIn rowAt agedOf agesAfter sentOf carriedOf emptyOf acceptOf removeOf getOf without blockedOf readyOf oldestOf counting.startOf counting.tickOf counting.refreshedOf counting.soundCounters levelOf plan.quietly plan.outcomeOf plan.tries plan.rest plan.afterPause plan.afterInitRefresh plan.readPlan plan.writePlan plan.transferPlan plan.accessPlan plan.takenPlan plan.latencyPlan plan.cycleLeft plan.refreshPlan plan.planOf plan.queueAfter plan.countersAfter choice.rulesOf choice.choiceOf choice.currentOf tickedOf turnOf
 examples = record { soundness = refl; configured = refl; reads = refl; writes = refl; room = refl; last = refl; steps = refl; readings = refl }

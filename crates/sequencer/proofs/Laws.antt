@@ -18,20 +18,20 @@ use Rattle.sequencer.specs.Sound.{soundOf}
 use Rattle.sequencer.specs.Calls.{recordNumberOf, requestNumberOf, slotOf}
 
 abbrev pub SoundFacts : Machine → Type 0
-SoundFacts m = parts.SoundFacts (m .config) (m .past) (m .counters) (m .control) (m .queue)
+SoundFacts m = parts.SoundFacts (m .config) (m .past) (m .counters) (m .control) (m .queue .count)
 
 abbrev pub RequestFacts : Machine → ℕ → Type 0
-RequestFacts m address = parts.RequestFacts (m .config) (m .past) (m .counters) (m .control) (m .queue) (m .accepted) address
+RequestFacts m address = parts.RequestFacts (m .config) (m .past) (m .counters) (m .control) (m .queue .count) (m .accepted) address
 
 pub facts-sound : (m : Machine) → SoundFacts m → soundOf m ≡ true
-facts-sound m f = parts.facts-sound (m .configured) (m .config) (m .past) (m .counters) (m .control) (m .queue) f
+facts-sound m f = parts.facts-sound (m .configured) (m .config) (m .past) (m .counters) (m .control) (m .queue .count) f
 
 pub sound-blank : soundOf machine.blankOf ≡ true
 unfolding soundBy machine.blankOf
 sound-blank = refl
 
 pub request-facts : (m : Machine) (address : ℕ) → requestNumberOf m address ≡ 0 → RequestFacts m address
-request-facts m address h = parts.request-facts (m .configured) (m .config) (m .past) (m .counters) (m .control) (m .queue) (m .accepted) address h
+request-facts m address h = parts.request-facts (m .configured) (m .config) (m .past) (m .counters) (m .control) (m .queue .count) (m .accepted) address h
 
 -- A slot of a record with the number 0, by what the slot of its parts gives.
 

@@ -6,10 +6,8 @@ use native.Mathlib.Omega.{arith}
 use Rattle.config.specs.declared.Config.{Config}
 use Rattle.config.specs.Accepted.{Accepted}
 use Rattle.config.proofs.Laws.{accepted}
-use Rattle.address.proofs.Laws.{cell-within}
 use Rattle.queue.specs.declared.Kind.{Kind}
 use Rattle.queue.specs.Places.{emptyOf}
-use Rattle.queue.proofs.Order.{none}
 use Rattle.refresh.proofs.Counts.{bounded-start}
 use Rattle.plan.specs.Actions.{inService}
 use Rattle.numbers.proofs.Laws as numbers
@@ -20,21 +18,21 @@ use Rattle.sequencer.specs.Calls.{recordNumberOf, queuedRequest, enqueue
 use Rattle.sequencer.proofs.Laws.{SoundFacts, RequestFacts}
 
 pub record-facts : (m : Machine) → recordNumberOf m ≡ 0 → SoundFacts m
-record-facts m h = numbers.record-facts (m .configured) (m .config) (m .past) (m .counters) (m .control) (m .queue) h
+record-facts m h = numbers.record-facts (m .configured) (m .config) (m .past) (m .counters) (m .control) (m .queue .count) h
 
 -- a slot without the tests
 pub step-sound : (m : Machine) → SoundFacts m → (bus : ℕ) → SoundFacts (stepOf m bus .machine)
 unfolding stepOf
-step-sound m f bus = slot-sound f bus .0
+step-sound m f bus = slot-sound (m .queue) f bus .0
 
 pub step-serves : (m : Machine) → SoundFacts m → (bus : ℕ) → inService (m .control .action) ≡ true → inService (stepOf m bus .machine .control .action) ≡ true
 unfolding stepOf
-step-serves m f bus = slot-sound f bus .1
+step-serves m f bus = slot-sound (m .queue) f bus .1
 
 pub queued-sound : (m : Machine) (kind : Kind) (address halfword : ℕ) → RequestFacts m address
     → SoundFacts (enqueuedOf m (queuedRequest m kind address halfword) .machine)
 unfolding enqueuedOf queuedRequest
-queued-sound m kind address halfword f = accepted-sound (f .sound) _ (f .room) (cell-within (m .config .geometry) address (f .below))
+queued-sound m kind address halfword f = accepted-sound (m .queue) (f .sound) _
 
 -- the machine that an accepted configuration gives
 pub start-facts : (c : Config) → Accepted c → SoundFacts (machineOf c)
@@ -44,5 +42,5 @@ start-facts c a =
       accepted = a;
       counters = bounded-start (omega (arith, a .long-enough, a .access-span));
       action = (omega (arith, a .long-enough, a .access-span), omega arith);
-      queue = record { count = omega arith; inside = none };
+      few = omega arith;
     }

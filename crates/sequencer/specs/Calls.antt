@@ -4,7 +4,6 @@ use mathlib.Core.Bool.{cond}
 use lib.Dec.{eqb}
 use Rattle.config.specs.declared.Setting.{Setting}
 use Rattle.config.specs.Setting.{settingOf}
-use Rattle.address.specs.Map.{cellOf}
 use Rattle.command.specs.declared.Command.the-variants.{Nop}
 use Rattle.queue.specs.declared.Kind.{Kind}
 use Rattle.queue.specs.declared.Kind.the-variants.{Read, Write}
@@ -29,15 +28,15 @@ configureOf cfg row ref tim = configuredBy (settingOf cfg row ref tim)
 
 -- Every other call: 9 for an unsound record, then 8 for the blank machine (`numbers`).
 abbrev pub recordNumberOf : Machine → ℕ
-recordNumberOf m = recordNumberBy (m .configured) (m .config) (m .past) (m .counters) (m .control) (m .queue)
+recordNumberOf m = recordNumberBy (m .configured) (m .config) (m .past) (m .counters) (m .control) (m .queue .count)
 
 -- Requests: then 4 and 5 for the address, 6 for a full queue, 7 for the last number.
 abbrev pub requestNumberOf : Machine → ℕ → ℕ
-requestNumberOf m address = requestNumberBy (m .configured) (m .config) (m .past) (m .counters) (m .control) (m .queue) (m .accepted) address
+requestNumberOf m address = requestNumberBy (m .configured) (m .config) (m .past) (m .counters) (m .control) (m .queue .count) (m .accepted) address
 
 -- a request that is accepted has the next number, and goes to the end of the queue
 unfoldable pub queuedRequest : Machine → Kind → ℕ → ℕ → Request
-queuedRequest m kind address halfword = requestFor kind (m .accepted + 1) address (cellOf (m .config .geometry) address) halfword
+queuedRequest m kind address halfword = requestFor kind (m .accepted + 1) address halfword
 
 unfoldable pub enqueuedOf : Machine → Request → Requested
 enqueuedOf m r =

@@ -4,4 +4,4 @@ use Rattle.numbers.specs.Sound.{soundBy}
 use Rattle.sequencer.specs.declared.Machine.{Machine}
 
 abbrev pub soundOf : Machine → Bool
-soundOf m = soundBy (m .configured) (m .config) (m .past) (m .counters) (m .control) (m .queue)
+soundOf m = soundBy (m .configured) (m .config) (m .past) (m .counters) (m .control) (m .queue .count)

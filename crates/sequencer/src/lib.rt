@@ -12,8 +12,6 @@ use queue::Request;
 use refresh::Counters;
 ghost use mathlib.Core.Path.{_≡_};
 ghost use Prim.Native.Nat.{_<_};
-ghost use Rattle.config.specs.Accepted.{Shaped};
-ghost use Rattle.address.specs.Map.{capacityOf};
 ghost use Rattle.numbers.specs.Numbers.{lastNumber};
 ghost use Rattle.sequencer.specs.Machine.{blankOf, machineOf};
 ghost use Rattle.sequencer.specs.Calls.{
@@ -139,25 +137,15 @@ impl Machine {
         }
     }
 
-    // The request as it is queued, with the next number and its cell.
+    // The request as it is queued, with the next number.
     fn queued_request(self, kind: Kind, address: u32, halfword: u16) -> Request
-        requires { ⌜ Shaped (self .config .geometry) ⌝ }
-        requires { ⌜ address < capacityOf (self .config .geometry) ⌝ }
         requires { ⌜ self .accepted < lastNumber ⌝ }
         ensures { λ r. ⌜ r ≡ queuedRequest self kind address halfword ⌝ }
     {
-        let geometry = self.config.geometry;
-        let cell = address::cell_of(geometry, address);
-        let row = cell.row;
-        let column = cell.column;
-        let bank = cell.bank;
         Request {
             number: self.accepted + 1,
             address,
-            row,
-            column,
             halfword,
-            bank,
             kind,
         }
     }
@@ -209,7 +197,7 @@ impl Machine {
             past,
             counters,
             control,
-            queue,
+            queue.count,
             self.accepted,
             address,
         );
@@ -231,7 +219,7 @@ impl Machine {
             past,
             counters,
             control,
-            queue,
+            queue.count,
             self.accepted,
             address,
         );
@@ -252,27 +240,25 @@ impl Machine {
         }
     }
 
-    // One slot; `bus` is the halfword that the bus carries. The tests are those of `record_number`, in parts: so they compile to code in which the
-    // machine is not copied.
+    // One slot; `bus` is the halfword that the bus carries.
     pub fn slot(self, bus: u16) -> Slot
         ensures { λ r. ⌜ r ≡ slotOf self bus ⌝ }
     {
-        if !self.configured {
-            return self.refused(8);
-        }
         let config = self.config;
-        if !config::accepted(config) {
-            return self.refused(9);
-        }
         let past = self.past;
         let counters = self.counters;
         let control = self.control;
         let queue = self.queue;
-        if !numbers::state_sound(config, past, counters, control, queue.count) {
-            return self.refused(9);
-        }
-        if !queue.inside(config.geometry) {
-            return self.refused(9);
+        let number = numbers::record_number(
+            self.configured,
+            config,
+            past,
+            counters,
+            control,
+            queue.count,
+        );
+        if number != 0 {
+            return self.refused(number);
         }
         let turned = turn::turn(config, past, counters, control, queue, bus);
         let past = turned.past;
@@ -317,7 +303,7 @@ impl Machine {
             past,
             counters,
             control,
-            queue,
+            queue.count,
         );
         if number != 0 {
             return Reading { number, backlog: 0 };

@@ -12,9 +12,7 @@ unfolding requestOf
 returns c = simp (← c .before .pre, ne-eqb _ _ (c .if1 .taken))
 
 queued-request-requires : tie.Need-queued-request-requires
-queued-request-requires c κs =
-    let f = request-facts _ _ (sym (c .before .pre) ∙ c .if1 .left) in
-    (f .sound .accepted .shaped, (f .below, f .number))
+queued-request-requires c κs = let x = c .before .args in request-facts (x .self) (x .address) (sym (c .before .pre) ∙ c .if1 .left) .number
 
 accept-requires : tie.Need-accept-requires
 accept-requires c κs = search needs

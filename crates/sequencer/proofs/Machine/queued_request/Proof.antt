@@ -1,18 +1,16 @@
--- The cell is `cell_of`'s.
+-- The request is the definition's.
 use borrow.Author.Needs.{needs}
 use Rattle.sequencer.proofs.Machine.queued_request.Statement.{statement}
 use Rattle.sequencer.proofs.Machine.queued_request.Tie as tie
+use mathlib.Core.Path.{refl}
 use Rattle.sequencer.specs.Calls.{queuedRequest}
 
-cell-of-requires : tie.Need-cell-of-requires
-cell-of-requires c κs = search needs
-
-add-t10 : tie.Need-add-t10
-add-t10 c = search needs
+add-t5 : tie.Need-add-t5
+add-t5 c = search needs
 
 returns : tie.Need-returns
 unfolding queuedRequest
-returns c = simp (← c .before .before .before .before .cell-of .ensures)
+returns c = refl
 
 pub queued-request-spec : {M : Type 1} → statement M
-queued-request-spec = tie.close (tie.spec cell-of-requires add-t10 returns)
+queued-request-spec = tie.close (tie.spec add-t5 returns)
