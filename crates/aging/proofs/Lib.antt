@@ -1,2 +1,3 @@
 -- The past after each command.
 pub mod Stores
+pub mod Loop

@@ -6,6 +6,7 @@ use ages::Past;
 use command::Command;
 ghost use mathlib.Core.Path.{_≡_};
 ghost use mathlib.Core.Bool.{false};
+ghost use mathlib.Core.List.{map};
 ghost use Rattle.ages.specs.Ages.{agedOf, sentOf};
 ghost use Rattle.aging.specs.Steps.{afterAct, afterRead, afterWrt, afterPre, afterDeac, afterRefr, afterMrs};
 
@@ -19,29 +20,26 @@ fn aged(age: u8) -> u8
     age + 1
 }
 
+// All ages a slot older.
+fn older(ages: [u8; 16]) -> [u8; 16]
+    ensures { λ r. ⌜ r ≡ map (agedOf false) ages ⌝ }
+{
+    let mut next = ages;
+    let mut i = 0;
+    while i < 16 {
+        let age = next[i];
+        next[i] = aged(age);
+        i += 1;
+    }
+    next
+}
+
 // The past after a NOP.
 fn rested(p: Past) -> Past
     ensures { λ r. ⌜ r ≡ sentOf p Command.Nop ⌝ }
 {
     let before = p.ages;
-    let ages = [
-        aged(before[0]),
-        aged(before[1]),
-        aged(before[2]),
-        aged(before[3]),
-        aged(before[4]),
-        aged(before[5]),
-        aged(before[6]),
-        aged(before[7]),
-        aged(before[8]),
-        aged(before[9]),
-        aged(before[10]),
-        aged(before[11]),
-        aged(before[12]),
-        aged(before[13]),
-        aged(before[14]),
-        aged(before[15]),
-    ];
+    let ages = older(before);
     let mut q = p;
     q.ages = ages;
     q

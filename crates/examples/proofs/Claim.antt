@@ -11,7 +11,7 @@ use Rattle.device.specs.Rules.{R7, R12-open, R13-open, R14, requirements, legal
 use Rattle.ages.specs.Ages.{freshOf, openedOf, rowIn, rowAt, agedOf, agesAfter, sentOf}
 use Rattle.queue.specs.Places.{without, emptyOf, acceptOf, removeOf, getOf}
 use Rattle.queue.specs.Oldest.{blockedOf, readyOf, oldestOf}
-use Rattle.queue.specs.Sound.{soundQueue}
+
 use Rattle.refresh.specs.Counting.{startOf, tickOf, refreshedOf, soundCounters}
 use Rattle.refresh.specs.Urgency.{levelOf}
 use Rattle.plan.specs.Actions.{soundAction}
@@ -19,12 +19,12 @@ use Rattle.plan.specs.Plan as plan
 use Rattle.plan.specs.Choice.{rulesOf, choiceOf, currentOf}
 use Rattle.plan.specs.Slot.{tickedOf, turnOf}
 use Rattle.sequencer.specs.Machine.{blankOf, machineOf, stepOf}
-use Rattle.numbers.specs.Sound.{fitBy, soundBy}
+use Rattle.numbers.specs.Sound.{stateBy, fitBy, soundBy}
 use Rattle.numbers.specs.Numbers.{recordNumberBy, roomNumberOf, requestNumberBy}
 use Rattle.sequencer.specs.Calls.{configuredBy, configureOf, queuedRequest, enqueuedOf, requestOf, slotOf}
 use Rattle.examples.specs.Run.{occupied, watched, requested}
 use Rattle.examples.specs.Table.{table, answer}
 
 pub examples-hold : map (λ e. answer (e .asked)) table ≡ map (λ e. e .said) table
-unfolding table answer settingOf reservedAll reservedMap offeredOf checkedOf configOf geometryOf toCellOf mapNumberOf locatedOf addressNumberOf capacityOf cellOf holdsOf allClosed marksOf rowOf legalOf requirements R7 R12-open R13-open R14 freshOf openedOf rowIn rowAt agedOf agesAfter sentOf carriedOf without emptyOf acceptOf removeOf getOf blockedOf readyOf oldestOf soundQueue startOf tickOf refreshedOf soundCounters levelOf soundAction plan.quietly plan.outcomeOf plan.tries plan.rest plan.afterPause plan.afterInitRefresh plan.readPlan plan.writePlan plan.transferPlan plan.accessPlan plan.takenPlan plan.latencyPlan plan.cycleLeft plan.refreshPlan plan.planOf plan.queueAfter plan.countersAfter rulesOf choiceOf currentOf tickedOf turnOf blankOf machineOf stepOf configAccepted shapedOf distancesOf spannedOf fitBy soundBy configuredBy configureOf recordNumberBy roomNumberOf requestNumberBy queuedRequest enqueuedOf requestOf slotOf occupied watched requested
+unfolding table answer settingOf reservedAll reservedMap offeredOf checkedOf configOf geometryOf toCellOf mapNumberOf locatedOf addressNumberOf capacityOf cellOf holdsOf allClosed marksOf rowOf legalOf requirements R7 R12-open R13-open R14 freshOf openedOf rowIn rowAt agedOf agesAfter sentOf carriedOf without emptyOf acceptOf removeOf getOf blockedOf readyOf oldestOf startOf tickOf refreshedOf soundCounters levelOf soundAction plan.quietly plan.outcomeOf plan.tries plan.rest plan.afterPause plan.afterInitRefresh plan.readPlan plan.writePlan plan.transferPlan plan.accessPlan plan.takenPlan plan.latencyPlan plan.cycleLeft plan.refreshPlan plan.planOf plan.queueAfter plan.countersAfter rulesOf choiceOf currentOf tickedOf turnOf blankOf machineOf stepOf configAccepted shapedOf distancesOf spannedOf stateBy fitBy soundBy configuredBy configureOf recordNumberBy roomNumberOf requestNumberBy queuedRequest enqueuedOf requestOf slotOf occupied watched requested
 examples-hold = refl

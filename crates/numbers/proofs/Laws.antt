@@ -19,7 +19,7 @@ use Rattle.refresh.proofs.Counts.{Bounded, sound-bounded, bounded-sound}
 use Rattle.plan.specs.declared.Control.{Control}
 use Rattle.plan.specs.Actions.{soundAction}
 use Rattle.plan.proofs.Sound.{SoundAction, sound-action, action-sound}
-use Rattle.numbers.specs.Sound.{fitBy, soundBy}
+use Rattle.numbers.specs.Sound.{stateBy, fitBy, soundBy}
 use Rattle.numbers.specs.Numbers.{recordNumberBy, lastNumber, roomNumberOf, requestNumberBy}
 
 -- what a sound record that is configured keeps to
@@ -50,7 +50,7 @@ room-facts queued accepted h = by-tests (leb 8 queued) (leb lastNumber accepted)
 
 module _ (b : Bool) (c : Config) (p : Past) (n : Counters) (x : Control) (count : ℕ) where
   fit-true : fitBy c p n x count ≡ true → SoundFacts c p n x count
-  unfolding fitBy
+  unfolding fitBy stateBy
   fit-true h =
       let a = acceptedOf c in
       let s = soundCounters (c .rr) n in
@@ -67,7 +67,7 @@ module _ (b : Bool) (c : Config) (p : Past) (n : Counters) (x : Control) (count 
       }
 
   true-fit : SoundFacts c p n x count → fitBy c p n x count ≡ true
-  unfolding fitBy
+  unfolding fitBy stateBy
   true-fit f =
       simp (
         true-accepted _ (f .accepted),
@@ -139,8 +139,6 @@ module _ (b : Bool) (c : Config) (p : Past) (n : Counters) (x : Control) (count 
   number-blank e = rw e
 
   -- a configured one, by what the tests gave
-  pub number-parts : b ≡ true → {s t d a : Bool} → s ≡ acceptedOf c → t ≡ soundCounters (c .rr) n → d ≡ leb count 8
-      → a ≡ soundAction c (p .programmed) (allClosed (rowAt p)) count (x .action)
-      → recordNumberBy b c p n x count ≡ cond (s && (t && (d && a))) 0 9
+  pub number-parts : b ≡ true → {s t : Bool} → s ≡ acceptedOf c → t ≡ stateBy c p n x count → recordNumberBy b c p n x count ≡ cond (s && t) 0 9
   unfolding recordNumberBy soundBy fitBy
-  number-parts e f g h i = rw (e, f, g, h, i)
+  number-parts e f g = rw (e, f, g)

@@ -13,10 +13,13 @@ use Rattle.refresh.specs.Counting.{soundCounters}
 use Rattle.plan.specs.declared.Control.{Control}
 use Rattle.plan.specs.Actions.{soundAction}
 
--- what a configured record has to keep to; `count` requests are queued, eight at most
+-- what calls change: the counters, the number of queued requests, eight at most, and the action under way
+unfoldable pub stateBy : Config → Past → Counters → Control → ℕ → Bool
+stateBy c p n x count = soundCounters (c .rr) n && (leb count 8 && soundAction c (p .programmed) (allClosed (rowAt p)) count (x .action))
+
+-- what a configured record has to keep to
 unfoldable pub fitBy : Config → Past → Counters → Control → ℕ → Bool
-fitBy c p n x count =
-    acceptedOf c && (soundCounters (c .rr) n && (leb count 8 && soundAction c (p .programmed) (allClosed (rowAt p)) count (x .action)))
+fitBy c p n x count = acceptedOf c && stateBy c p n x count
 
 -- a blank machine is sound
 unfoldable pub soundBy : Bool → Config → Past → Counters → Control → ℕ → Bool

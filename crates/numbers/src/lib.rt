@@ -4,13 +4,33 @@ use config::Config;
 use plan::Control;
 use refresh::Counters;
 ghost use mathlib.Core.Path.{_≡_};
+ghost use Rattle.numbers.specs.Sound.{stateBy};
 ghost use Rattle.numbers.specs.Numbers.{recordNumberBy, roomNumberOf, requestNumberBy};
 
 // The most requests that are ever accepted.
 const LAST: u32 = 4294967295;
 
-// What every call tests first: 9 for an unsound record (docs/SOUNDNESS.md), then 8. It looks at parts of the machine, so that the machine is not
-// copied for it; of the queue it needs the number of requests.
+// Soundness of all but the configuration. It looks at parts of the machine, so that the machine is not copied for it.
+pub fn state_sound(
+    config: Config,
+    past: Past,
+    counters: Counters,
+    control: Control,
+    count: usize,
+) -> bool
+    ensures { λ r. ⌜ r ≡ stateBy config past counters control count ⌝ }
+{
+    if !counters.sound(config.rr) {
+        return false;
+    }
+    if 8 < count {
+        return false;
+    }
+    let action = control.action;
+    actions::action_sound(config, past, count, action)
+}
+
+// What every call tests first: 9 for an unsound record (docs/SOUNDNESS.md), then 8. `Machine::slot` makes these tests itself.
 pub fn record_number(
     configured: bool,
     config: Config,
@@ -27,14 +47,7 @@ pub fn record_number(
     if !config::accepted(config) {
         return 9;
     }
-    if !counters.sound(config.rr) {
-        return 9;
-    }
-    if 8 < count {
-        return 9;
-    }
-    let action = control.action;
-    if actions::action_sound(config, past, count, action) {
+    if state_sound(config, past, counters, control, count) {
         return 0;
     }
     9

@@ -13,7 +13,7 @@ use Rattle.ages.specs.declared.Past.{Past}
 use Rattle.ages.specs.Ages.{firstRow, openedOf, rowIn, rowAt, agedOf, agesAfter, sentOf}
 use Rattle.queue.specs.Places.{emptyOf, acceptOf, removeOf, getOf, without}
 use Rattle.queue.specs.Oldest.{blockedOf, readyOf, oldestOf}
-use Rattle.queue.specs.Sound.{soundQueue}
+
 use Rattle.refresh.specs.Counting as counting
 use Rattle.refresh.specs.Urgency.{levelOf}
 use Rattle.plan.specs.declared.Action.{Action}
@@ -22,7 +22,7 @@ use Rattle.plan.specs.Actions.{inService, soundAction}
 use Rattle.plan.specs.Plan as plan
 use Rattle.plan.specs.Choice as choice
 use Rattle.plan.specs.Slot.{tickedOf, turnOf}
-use Rattle.numbers.specs.Sound.{fitBy, soundBy}
+use Rattle.numbers.specs.Sound.{stateBy, fitBy, soundBy}
 use Rattle.numbers.specs.Numbers.{recordNumberBy, roomNumberOf, requestNumberBy}
 use Rattle.sequencer.specs.declared.Machine.{Machine}
 use Rattle.sequencer.specs.Machine.{machineWith, stepOf}
@@ -76,7 +76,7 @@ record Examples : Type 0 where
   bounds : startWithin slow ∷ choiceWithin slow ∷ workedOffWithin slow ∷ [] ≡ 1963 ∷ 68 ∷ 680 ∷ []
 
 examples : Examples
-unfolding startWithin firstService choiceWithin workedOffWithin recordNumberBy roomNumberOf requestNumberBy queuedRequest enqueuedOf requestOf refusedWith slotOf stepOf configAccepted shapedOf distancesOf spannedOf fitBy soundBy soundAction soundQueue capacityOf cellOf holdsOf addressNumberOf allClosed marksOf rowOf legalOf requirements R7 R12-open R13-open R14 openedOf rowIn rowAt agedOf agesAfter sentOf carriedOf emptyOf acceptOf removeOf getOf without blockedOf readyOf oldestOf counting.tickOf counting.refreshedOf counting.soundCounters levelOf plan.quietly plan.outcomeOf plan.tries plan.rest plan.afterPause plan.afterInitRefresh plan.readPlan plan.writePlan plan.transferPlan plan.accessPlan plan.takenPlan plan.latencyPlan plan.cycleLeft plan.refreshPlan plan.planOf plan.queueAfter plan.countersAfter choice.rulesOf choice.choiceOf choice.currentOf tickedOf turnOf
+unfolding startWithin firstService choiceWithin workedOffWithin recordNumberBy roomNumberOf requestNumberBy queuedRequest enqueuedOf requestOf refusedWith slotOf stepOf configAccepted shapedOf distancesOf spannedOf stateBy fitBy soundBy soundAction capacityOf cellOf holdsOf addressNumberOf allClosed marksOf rowOf legalOf requirements R7 R12-open R13-open R14 openedOf rowIn rowAt agedOf agesAfter sentOf carriedOf emptyOf acceptOf removeOf getOf without blockedOf readyOf oldestOf counting.tickOf counting.refreshedOf counting.soundCounters levelOf plan.quietly plan.outcomeOf plan.tries plan.rest plan.afterPause plan.afterInitRefresh plan.readPlan plan.writePlan plan.transferPlan plan.accessPlan plan.takenPlan plan.latencyPlan plan.cycleLeft plan.refreshPlan plan.planOf plan.queueAfter plan.countersAfter choice.rulesOf choice.choiceOf choice.currentOf tickedOf turnOf
 examples =
     record {
       sound = (refl, refl, refl);

@@ -49,7 +49,7 @@ use Rattle.sequencer.specs.declared.Configured.{Configured}
 use Rattle.sequencer.specs.declared.Requested.{Requested}
 use Rattle.sequencer.specs.declared.Slot.{Slot}
 use Rattle.sequencer.specs.Machine.{blankOf, machineOf, stepOf}
-use Rattle.numbers.specs.Sound.{fitBy, soundBy}
+use Rattle.numbers.specs.Sound.{stateBy, fitBy, soundBy}
 use Rattle.numbers.specs.Numbers.{recordNumberBy, lastNumber, roomNumberOf, requestNumberBy}
 use Rattle.sequencer.specs.Sound.{soundOf}
 use Rattle.sequencer.specs.Calls.{
@@ -343,5 +343,5 @@ record Examples : Type 0 where
       ≡ record { number = 9; backlog = 0 } ∷ record { number = 8; backlog = 0 } ∷ record { number = 0; backlog = 0 } ∷ record { number = 0; backlog = 15 } ∷ []
 
 examples : Examples
-unfolding sound unsound refusals slots configuredBy configureOf recordNumberBy roomNumberOf requestNumberBy queuedRequest enqueuedOf requestOf refusedWith slotOf backlogOf blankOf machineOf stepOf configAccepted shapedOf distancesOf spannedOf fitBy soundBy soundAction reservedMap reservedAll offeredOf geometryOf configOf checkedOf settingOf capacityOf cellOf holdsOf addressNumberOf allClosed marksOf rowOf legalOf requirements R7 R12-open R13-open R14 freshOf openedOf rowIn rowAt agedOf agesAfter sentOf carriedOf emptyOf acceptOf removeOf getOf without blockedOf readyOf oldestOf counting.startOf counting.tickOf counting.refreshedOf counting.soundCounters levelOf plan.quietly plan.outcomeOf plan.tries plan.rest plan.afterPause plan.afterInitRefresh plan.readPlan plan.writePlan plan.transferPlan plan.accessPlan plan.takenPlan plan.latencyPlan plan.cycleLeft plan.refreshPlan plan.planOf plan.queueAfter plan.countersAfter choice.rulesOf choice.choiceOf choice.currentOf tickedOf turnOf
+unfolding sound unsound refusals slots configuredBy configureOf recordNumberBy roomNumberOf requestNumberBy queuedRequest enqueuedOf requestOf refusedWith slotOf backlogOf blankOf machineOf stepOf configAccepted shapedOf distancesOf spannedOf stateBy fitBy soundBy soundAction reservedMap reservedAll offeredOf geometryOf configOf checkedOf settingOf capacityOf cellOf holdsOf addressNumberOf allClosed marksOf rowOf legalOf requirements R7 R12-open R13-open R14 freshOf openedOf rowIn rowAt agedOf agesAfter sentOf carriedOf emptyOf acceptOf removeOf getOf without blockedOf readyOf oldestOf counting.startOf counting.tickOf counting.refreshedOf counting.soundCounters levelOf plan.quietly plan.outcomeOf plan.tries plan.rest plan.afterPause plan.afterInitRefresh plan.readPlan plan.writePlan plan.transferPlan plan.accessPlan plan.takenPlan plan.latencyPlan plan.cycleLeft plan.refreshPlan plan.planOf plan.queueAfter plan.countersAfter choice.rulesOf choice.choiceOf choice.currentOf tickedOf turnOf
 examples = record { soundness = refl; configured = refl; reads = refl; writes = refl; room = refl; last = refl; steps = refl; readings = refl }

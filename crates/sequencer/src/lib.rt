@@ -240,25 +240,24 @@ impl Machine {
         }
     }
 
-    // One slot; `bus` is the halfword that the bus carries.
+    // One slot; `bus` is the halfword that the bus carries. The tests are those of `record_number`, in parts: so they compile to code in which the
+    // machine is not copied.
     pub fn slot(self, bus: u16) -> Slot
         ensures { λ r. ⌜ r ≡ slotOf self bus ⌝ }
     {
+        if !self.configured {
+            return self.refused(8);
+        }
         let config = self.config;
+        if !config::accepted(config) {
+            return self.refused(9);
+        }
         let past = self.past;
         let counters = self.counters;
         let control = self.control;
         let queue = self.queue;
-        let number = numbers::record_number(
-            self.configured,
-            config,
-            past,
-            counters,
-            control,
-            queue.count,
-        );
-        if number != 0 {
-            return self.refused(number);
+        if !numbers::state_sound(config, past, counters, control, queue.count) {
+            return self.refused(9);
         }
         let turned = turn::turn(config, past, counters, control, queue, bus);
         let past = turned.past;
