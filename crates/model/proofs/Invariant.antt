@@ -9,6 +9,7 @@ use lib.ListN.{getD}
 use Rattle.config.specs.declared.Config.{Config}
 use Rattle.config.specs.declared.Geometry.{Geometry}
 use Rattle.address.specs.declared.Row.{Row}
+use Rattle.address.specs.declared.Cell.{Cell}
 use Rattle.address.specs.Map.{capacityOf, cellOf}
 use Rattle.device.specs.View.{
   Distance,
@@ -68,10 +69,9 @@ pub record Kept (c : Config) (w : World) : Type 0 where
 abbrev pub Ok : Geometry → ℕ → Type 0
 Ok g a = (a % 2 ≡ 0) × (a < capacityOf g)
 
--- a queued request's address counts, and its cell is that address's
-pub record Good (g : Geometry) (r : Request) : Type 0 where
-  pub ok : Ok g (r .address)
-  pub cell : cellHeld r ≡ cellOf g (r .address)
+-- a queued request's address counts
+abbrev pub Good : Geometry → Request → Type 0
+Good g r = Ok g (r .address)
 
 -- the SDRAM's cells as a memory of addresses
 abbrev pub seen : Geometry → Cells → ℕ → ℕ
@@ -147,12 +147,12 @@ unfoldable pub prechargeLeft : Config → Past → ℕ → ℕ
 prechargeLeft c p b = bankHeld c p b + c .rp + short c p (rowCycle b) + othersHeld c p b + c .rcd + c .latency + 2
 
 -- by the bank's open row
-abbrev pub rowLeft : Config → Past → Option Row → Request → ℕ
-rowLeft c p none r = activateLeft c p (r .bank .0)
-rowLeft c p (some x) r = cond (eqb (x .0) (r .row .0)) (transferLeft c p (r .kind) (r .bank .0)) (prechargeLeft c p (r .bank .0))
+abbrev pub rowLeft : Config → Past → Option Row → Kind → Cell → ℕ
+rowLeft c p none kind x = activateLeft c p (x .bank .0)
+rowLeft c p (some y) kind x = cond (eqb (y .0) (x .row .0)) (transferLeft c p kind (x .bank .0)) (prechargeLeft c p (x .bank .0))
 
-unfoldable pub accessLeft : Config → Past → Request → ℕ
-accessLeft c p r = rowLeft c p (rowAt p (r .bank .0)) r
+unfoldable pub accessLeft : Config → Past → Kind → Cell → ℕ
+accessLeft c p kind x = rowLeft c p (rowAt p (x .bank .0)) kind x
 
 -- the initialisation has none: its slots are counted (Start)
 abbrev pub leftOf : Config → Past → Queue → Action → ℕ
@@ -162,7 +162,7 @@ leftOf c p q (InitRefresh n) = 0
 leftOf c p q InitMode = 0
 leftOf c p q InitSettle = 0
 leftOf c p q Idle = 0
-leftOf c p q (Access i) = accessLeft c p (getOf q i)
+leftOf c p q (Access i) = let r : Request = getOf q i in accessLeft c p (r .kind) (cellHeld (c .geometry) r)
 leftOf c p q (CasLatency i left) = left + 1
 leftOf c p q Turnaround = 1
 leftOf c p q PrechargeAll = allHeld c p + c .rp + c .rfc

@@ -23,7 +23,6 @@ use Rattle.queue.specs.Places.{heldOf}
 use Rattle.queue.proofs.Order.{Each}
 use Rattle.queue.proofs.Each.{each-map}
 use Rattle.queue.proofs.Tidy.{Tidy, tidy-length}
-use Rattle.queue.proofs.Sound.{Inside}
 use Rattle.refresh.specs.declared.Counters.{Counters}
 use Rattle.refresh.specs.Counting.{startOf, expiriesOf}
 use Rattle.refresh.proofs.Counts as counts
@@ -155,9 +154,6 @@ serving-sound c p q d f PrechargeAll e m s t v = m
 serving-sound c p q d f Refresh e m s t v = (m, s .1)
 serving-sound c p q d f (RefreshCycle left) e m s t v = (m, s .1, s .2)
 
-good-inside : (g : Geometry) (l : List Request) → Each (Good g) l → Inside g l
-good-inside g l e = each-map (λ r h. rw (h .cell) (cell-within g (r .address) (h .ok .1))) e
-
 action-sound : {c : Config} {w : World} → Whole c w
     → SoundAction c (w .machine .past .programmed) (allClosed (rowAt (w .machine .past))) (w .machine .queue .count) (w .machine .control .action)
 action-sound {c} {w} v = go (inService (w .machine .control .action)) refl (v .timed)
@@ -181,7 +177,7 @@ module _ {c : Config} {w : World} (a : Accepted c) (v : Whole c w) where
         accepted = rw (k .config) a;
         counters = rw (k .config) (n .bounded);
         action = rw (k .config) (action-sound v);
-        queue = rw (k .config) (record { count = o .tidy .within; inside = good-inside (c .geometry) (heldOf (w .machine .queue)) (o .good) });
+        few = o .tidy .within;
       } in
       rw (facts-sound (w .machine) facts, k .configured)
 

@@ -63,7 +63,7 @@ use Rattle.model.proofs.Refreshes.{refreshes-before, refreshes-after}
 use Rattle.model.proofs.Standing.{Before, During, Phase, Whole, sound, standing, exact, none-served}
 use Rattle.model.proofs.Requests.{answered, request-whole}
 use Rattle.model.proofs.Start.{Starting, starting-first, starting-slot, starting-below, starting-done, starting-keeps, starting-busy, done-set}
-use Rattle.model.proofs.Timing.Service.{Ends, timely-slot, timely-first, all-placed, queued-doing}
+use Rattle.model.proofs.Timing.Service.{Ends, timely-slot, timely-first}
 
 -- the queue is the same at a choice
 current-queue : (x : Control) (n : ℕ) (q : Queue) (closed : Bool) → currentOf x n q closed .queue ≡ q
@@ -159,8 +159,7 @@ module _ (w : World) (a : Accepted (w .machine .config)) (v : Whole (w .machine 
     unfolding chosenOf actedOf
     ends =
         rw counted
-        (timely-slot a (v .kept .agrees .aged) (v .ordered .tidy) (all-placed (v .ordered .tidy) (v .ordered .good)) (m .control)
-        (queued-doing (v .ordered .tidy) (w .sdram) (w .flat) (m .control .action) (v .ordered .doing)) (d .timely) (allClosed (rowAt (m .past))) (busOf w any))
+        (timely-slot a (v .kept .agrees .aged) (m .control) (d .timely) (allClosed (rowAt (m .past))) (busOf w any))
 
     one-more : servedBy c (suc (w .sdram .log .now)) ≡ servedBy c (w .sdram .log .now) + 1
     one-more = omega (arith, d .reached)

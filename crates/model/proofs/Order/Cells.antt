@@ -23,7 +23,7 @@ use Rattle.ages.specs.declared.Past.{Past}
 use Rattle.ages.specs.Ages.{rowAt}
 use Rattle.ages.proofs.Agree.{Agrees}
 use Rattle.model.specs.Sdram.{Cells, Sdram, sameCell, stored, openCell, cellsAfter, drivenAfter, takes, sdramAfter}
-use Rattle.model.proofs.Invariant.{seen}
+use Rattle.model.proofs.Invariant.{Ok, seen}
 
 -- commands that are no WRT change no cell, taken or not
 abbrev pub Unwritten : Command → Type 0
@@ -92,8 +92,8 @@ same-cell x y e =
 cell-same : (x : Cell) → sameCell x x ≡ true
 cell-same x = rw (eq-eqb (x .bank .0) _ refl, eq-eqb (x .row .0) _ refl, eq-eqb (x .column .0) _ refl)
 
--- one cell for each even address: a halfword written to an address's cell is written to that address alone
-pub seen-stored : (g : Geometry) (m : Cells) (at h a : ℕ) → at % 2 ≡ 0 → a % 2 ≡ 0
+-- one cell for each address that counts: a halfword written to an address's cell is written to that address alone
+pub seen-stored : (g : Geometry) (m : Cells) (at h a : ℕ) → Ok g at → Ok g a
     → seen g (stored m (cellOf g at) h) a ≡ cond (eqb a at) h (seen g m a)
 unfolding stored
 seen-stored g m at h a even other = go (ℕ-discrete a at)
@@ -102,5 +102,5 @@ seen-stored g m at h a even other = go (ℕ-discrete a at)
     go (yes e) = rw (eq-eqb a at e, e, cell-same (cellOf g at))
     go (no n) =
         by-test (sameCell (cellOf g a) (cellOf g at))
-        (λ s. absurd (n (cells-differ g a at other even (same-cell _ _ s))))
+        (λ s. absurd (n (cells-differ g a at (other .0) (even .0) (other .1) (even .1) (same-cell _ _ s))))
         (λ s. rw (s, ne-eqb a at n))

@@ -79,7 +79,7 @@ put-other f at v n e = rw (ne-eqb n at e)
 
 -- the request that an accepted call queues
 abbrev pub requestAs : Geometry → ℕ → Kind → ℕ → ℕ → Request
-requestAs g n kind address halfword = requestFor kind n address (cellOf g address) halfword
+requestAs g n kind address halfword = requestFor kind n address halfword
 
 module _ {g : Geometry} {q : Queue} {a : Action} {n : ℕ} {d : Sdram} {f : Flat} {reported : List ℕ} (o : Ordered g q a n d f reported)
     (kind : Kind) (address halfword : ℕ) (room : q .count < 8) where
@@ -148,7 +148,7 @@ module _ {g : Geometry} {q : Queue} {a : Action} {n : ℕ} {d : Sdram} {f : Flat
       let e = held-accept new (o .tidy) room in
       record {
         tidy = tidy-accept new (o .tidy);
-        good = rw e (each-append (o .good) (more (record { ok = ok; cell = refl }) none));
+        good = rw e (each-append (o .good) (more ok none));
         rising = rw e (rising-accept new refl (o .rising));
         counted = omega (arith, o .counted);
         kinds =

@@ -14,6 +14,7 @@ use Rattle.config.specs.declared.Config.{Config}
 use Rattle.config.specs.declared.Geometry.{Geometry}
 use Rattle.config.specs.Accepted.{Accepted}
 use Rattle.address.specs.declared.Row.{Row}
+use Rattle.address.specs.declared.Cell.{Cell}
 use Rattle.address.specs.Map.{cellOf}
 use Rattle.address.proofs.Laws.{cell-within}
 use Rattle.command.specs.declared.Command.{Command}
@@ -132,7 +133,7 @@ module _ {g : Geometry} {q : Queue} {a : Action} {n : ℕ} {d : Sdram} {f : Flat
             (each-map (λ x p t. still x (p .0) (p .1) (List·Memᴰ·cases-cons t))
             (each-both (each-without i (o .unreported)) (rising-apart i (s .within) (o .rising))));
         known = λ k t. known k (List·Memᴰ·cases-cons t);
-        memory = rw h (consistent-memory (each-map (λ x p. p .ok) (each-without i (o .good))) m others);
+        memory = rw h (consistent-memory (each-without i (o .good)) m others);
         doing = v;
       }
     where
@@ -166,8 +167,8 @@ unfolding busOf
 bus-carries w any h e = rw e
 
 -- a bank of the geometry is one of the four
-bank-four : (c : Config) → Accepted c → (r : Request) → Good (c .geometry) r → r .bank .0 < 4
-bank-four c u r h = rw (ap (λ x. x .bank) (h .cell)) (omega (arith, cell-within (c .geometry) (r .address) (h .ok .1) .bank, pow-mono (u .shaped .banks-most)))
+bank-four : (c : Config) → Accepted c → (r : Request) → cellHeld (c .geometry) r .bank .0 < 4
+bank-four c u r = omega (arith, cell-within (c .geometry) (r .address) .bank, pow-mono (u .shaped .banks-most))
 
 -- a command that is legal by the ages is taken
 pub takes-legal : {c : Config} {p : Past} (d : Sdram) → Accepted c → Agrees p (d .log) → (k : Command) → legalOf c (byAges c p) k ≡ true → takes c d k ≡ true
@@ -175,15 +176,15 @@ unfolding takes
 takes-legal d u v k l = sym (same-verdict u v k) ∙ l
 
 -- a read's READ and a write's WRT
-abbrev readFor : Request → Command
-readFor r = Command.Read (r .bank) (r .column)
+abbrev readFor : Cell → Command
+readFor x = Command.Read (x .bank) (x .column)
 
-abbrev writeFor : Request → Command
-writeFor r = Wrt (r .bank) (r .column) (r .halfword)
+abbrev writeFor : Request → Cell → Command
+writeFor r x = Wrt (x .bank) (x .column) (r .halfword)
 
--- the cell that these go to is the one of the request's address
-abbrev Open : Geometry → Sdram → Request → Type 0
-Open g d r = openCell (openRow (d .log .past) (r .bank .0)) (r .bank) (r .column) ≡ some (cellOf g (r .address))
+-- the cell that these go to is open
+abbrev Open : Sdram → Cell → Type 0
+Open d x = openCell (openRow (d .log .past) (x .bank .0)) (x .bank) (x .column) ≡ some x
 
 -- what does not look at the SDRAM
 abbrev Steady : Queue → Flat → Action → Type 0
@@ -279,21 +280,24 @@ module _ {c : Config} {p : Past} {q : Queue} {a : Action} {n : ℕ} {d : Sdram} 
       (λ h. rest-fine (CasLatency at (left - 1)) (waits left (leb-false left 1 h) k))
 
   -- an access whose row is open: its cell is the open one
-  here-open : (r : Request) → Good (c .geometry) r → {x : Row} → rowAt p (r .bank .0) ≡ some x → eqb (x .0) (r .row .0) ≡ true
-      → Open (c .geometry) d r
-  here-open r h opened row = open-cell v (cellHeld r) (bank-four c ok r h) opened row ∙ ap some (h .cell)
+  here-open : (r : Request) {y : Row} → rowAt p (cellHeld (c .geometry) r .bank .0) ≡ some y → eqb (y .0) (cellHeld (c .geometry) r .row .0) ≡ true
+      → Open d (cellHeld (c .geometry) r)
+  here-open r opened row = open-cell v (cellHeld (c .geometry) r) (bank-four c ok r) opened row
 
-  -- the request under way
+  -- the request under way, and its cell
   abbrev r : Request
   r = getOf q at
+
+  abbrev x : Cell
+  x = cellHeld (c .geometry) r
 
   held : r ≡ getD (heldOf q) at noRequest
   held = get-held at (o .tidy)
 
-  read-coming : Servable (heldOf q) at → r .kind ≡ Kind.Read → Open (c .geometry) d r → legalOf c (byAges c p) (readFor r) ≡ true
-      → Coming q (sdramAfter c d (readFor r)) f at (c .latency)
-  read-coming s k x l =
-      let t = takes-legal d ok v (readFor r) l in
+  read-coming : Servable (heldOf q) at → r .kind ≡ Kind.Read → Open d x → legalOf c (byAges c p) (readFor x) ≡ true
+      → Coming q (sdramAfter c d (readFor x)) f at (c .latency)
+  read-coming s k opened l =
+      let t = takes-legal d ok v (readFor x) l in
       record {
         servable = s;
         kind = rw (← held) k;
@@ -301,58 +305,58 @@ module _ {c : Config} {p : Past} {q : Queue} {a : Action} {n : ℕ} {d : Sdram} 
         driven =
             rw (
               ← held,
-              now-after c d (readFor r),
-              driven-read c d (r .bank) (r .column) (cellOf (c .geometry) (r .address)) t x,
+              now-after c d (readFor x),
+              driven-read c d (x .bank) (x .column) x t opened,
               eq-eqb (d .log .now + c .latency) (suc (d .log .now) + c .latency - 1) (omega arith),
             )
             (ap some (sym (answered o s r held k)));
       }
 
-  read-fine : Servable (heldOf q) at → r .kind ≡ Kind.Read → Open (c .geometry) d r → Fine (performedOf c p (readPlan c at r))
+  read-fine : Servable (heldOf q) at → r .kind ≡ Kind.Read → Open d x → Fine (performedOf c p (readPlan c at x))
   unfolding readPlan tries
-  read-fine s k x =
-      performed-both c p Fine (readPlan c at r)
-      (λ l. quiet-fine (readFor r) (CasLatency at (c .latency)) tt (read-coming s k x l))
+  read-fine s k opened =
+      performed-both c p Fine (readPlan c at x)
+      (λ l. quiet-fine (readFor x) (CasLatency at (c .latency)) tt (read-coming s k opened l))
       (λ l. quiet-fine Nop (Access at) tt s)
 
   -- what a write's WRT leaves in the cells is what serving the write does to the memory
-  write-served : Good (c .geometry) r → r .kind ≡ Kind.Write → Open (c .geometry) d r → legalOf c (byAges c p) (writeFor r) ≡ true
+  write-served : Good (c .geometry) r → r .kind ≡ Kind.Write → Open d x → legalOf c (byAges c p) (writeFor r x) ≡ true
       → (y : ℕ) → Ok (c .geometry) y
-      → applied (seen (c .geometry) (d .cells)) r y ≡ seen (c .geometry) (sdramAfter c d (writeFor r) .cells) y
-  write-served h k x l y i =
-      let t = takes-legal d ok v (writeFor r) l in
+      → applied (seen (c .geometry) (d .cells)) r y ≡ seen (c .geometry) (sdramAfter c d (writeFor r x) .cells) y
+  write-served h k opened l y i =
+      let t = takes-legal d ok v (writeFor r x) l in
       rw (
-        cells-written c d (r .bank) (r .column) (r .halfword) (cellOf (c .geometry) (r .address)) t x,
+        cells-written c d (x .bank) (x .column) (r .halfword) x t opened,
         served-write (seen (c .geometry) (d .cells)) r k,
       )
-      (sym (seen-stored (c .geometry) (d .cells) (r .address) (r .halfword) y (h .ok .0) (i .0)))
+      (sym (seen-stored (c .geometry) (d .cells) (r .address) (r .halfword) y h i))
 
-  write-fine : Servable (heldOf q) at → r .kind ≡ Kind.Write → Open (c .geometry) d r → Fine (performedOf c p (writePlan at r))
+  write-fine : Servable (heldOf q) at → r .kind ≡ Kind.Write → Open d x → Fine (performedOf c p (writePlan at r x))
   unfolding writePlan queueAfter
-  write-fine s k x =
-      performed-both c p Fine (writePlan at r)
+  write-fine s k opened =
+      performed-both c p Fine (writePlan at r x)
       (λ l. record {
-        ordered = ordered-removed o s r held (write-served (its o s r held (o .good)) k x l) tt;
+        ordered = ordered-removed o s r held (write-served (its o s r held (o .good)) k opened l) tt;
         reports = λ w y z. (named o s r held Kind.Write k w y z, tt);
         counted = omega (arith, remove-count q at (s .within) (o .tidy));
       })
       (λ l. quiet-fine Nop (Access at) tt s)
 
-  transfer-fine : Servable (heldOf q) at → (kind : Kind) → r .kind ≡ kind → Open (c .geometry) d r → Fine (performedOf c p (transferPlan c at r kind))
+  transfer-fine : Servable (heldOf q) at → (kind : Kind) → r .kind ≡ kind → Open d x → Fine (performedOf c p (transferPlan c at r x kind))
   unfolding transferPlan
-  transfer-fine s Kind.Read k x = read-fine s k x
-  transfer-fine s Kind.Write k x = write-fine s k x
+  transfer-fine s Kind.Read k opened = read-fine s k opened
+  transfer-fine s Kind.Write k opened = write-fine s k opened
 
-  access-fine : Servable (heldOf q) at → Fine (performedOf c p (accessPlan c (rowAt p (r .bank .0)) at r))
+  access-fine : Servable (heldOf q) at → Fine (performedOf c p (accessPlan c (rowAt p (x .bank .0)) at r x))
   unfolding accessPlan
-  access-fine s = go (rowAt p (r .bank .0)) refl
+  access-fine s = go (rowAt p (x .bank .0)) refl
     where
-      go : (x : Option Row) → rowAt p (r .bank .0) ≡ x → Fine (performedOf c p (accessPlan c x at r))
-      go none e = tried-fine (Act (r .bank) (r .row)) (Access at) (Access at) tt (λ y. s) (λ y. s)
-      go (some x) e =
-          if-both (λ y. Fine (performedOf c p y)) (eqb (x .0) (r .row .0))
-          (λ t. transfer-fine s (r .kind) refl (here-open r (its o s r held (o .good)) e t))
-          (λ t. tried-fine (Pre (r .bank)) (Access at) (Access at) tt (λ y. s) (λ y. s))
+      go : (y : Option Row) → rowAt p (x .bank .0) ≡ y → Fine (performedOf c p (accessPlan c y at r x))
+      go none e = tried-fine (Act (x .bank) (x .row)) (Access at) (Access at) tt (λ y. s) (λ y. s)
+      go (some y) e =
+          if-both (λ plan. Fine (performedOf c p plan)) (eqb (y .0) (x .row .0))
+          (λ t. transfer-fine s (r .kind) refl (here-open r e t))
+          (λ t. tried-fine (Pre (x .bank)) (Access at) (Access at) tt (λ y. s) (λ y. s))
 
 module _ {c : Config} {p : Past} {q : Queue} {n : ℕ} {d : Sdram} {f : Flat} {reported : List ℕ} (ok : Accepted c) (v : Agrees p (d .log)) (bus : ℕ) (w : Carries d bus) where
   -- A slot, whatever the action under way: order and memory stand, and its report is right.

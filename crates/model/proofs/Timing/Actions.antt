@@ -13,6 +13,7 @@ use Rattle.address.specs.declared.Bank.{Bank}
 use Rattle.address.specs.declared.Row.{Row}
 use Rattle.address.specs.declared.Cell.{Cell}
 use Rattle.address.specs.Map.{Holds}
+use Rattle.address.proofs.Laws.{cell-within}
 use Rattle.command.specs.declared.Command.{Command}
 use Rattle.command.specs.declared.Command.the-variants.{Nop, Act, Read, Wrt, Pre, Deac, Refr}
 use Rattle.device.specs.View.{
@@ -113,21 +114,6 @@ use Rattle.model.proofs.Timing.Distances.{
   refr-ready,
 }
 
--- an access's request has a cell of the geometry
-abbrev pub Placed : Config → Queue → Action → Type 0
-Placed c q (PowerUp n) = Unit {0}
-Placed c q InitPrecharge = Unit {0}
-Placed c q (InitRefresh n) = Unit {0}
-Placed c q InitMode = Unit {0}
-Placed c q InitSettle = Unit {0}
-Placed c q Idle = Unit {0}
-Placed c q (Access i) = Holds (c .geometry) (cellHeld (getOf q i))
-Placed c q (CasLatency i left) = Unit {0}
-Placed c q Turnaround = Unit {0}
-Placed c q PrechargeAll = Unit {0}
-Placed c q Refresh = Unit {0}
-Placed c q (RefreshCycle left) = Unit {0}
-
 -- the queue after a slot of an action
 abbrev pub queueLeft : Queue → Action → Served → Queue
 queueLeft q a s = queueAfter q (underWay a) (s .outcome .leaves)
@@ -181,22 +167,19 @@ rested ok p k f h = let e = cycle-sent p k f in omega (arith, ok .rfc-most)
 pub bank-four : {c : Config} → Accepted c → {x : Cell} → Holds (c .geometry) x → x .bank .0 < 4
 bank-four ok h = omega (arith, h .bank, pow-mono (ok .shaped .banks-most))
 
-module _ (c : Config) (p : Past) (r : Request) where
+module _ (c : Config) (p : Past) (kind : Kind) (x : Cell) where
   abbrev at : ℕ
-  at = r .bank .0
+  at = x .bank .0
 
-  left-transfer : {x : Row} → rowAt p at ≡ some x → eqb (x .0) (r .row .0) ≡ true → accessLeft c p r ≡ transferLeft c p (r .kind) at
+  left-transfer : {y : Row} → rowAt p at ≡ some y → eqb (y .0) (x .row .0) ≡ true → accessLeft c p kind x ≡ transferLeft c p kind at
   unfolding accessLeft
   left-transfer o e = rw (o, e)
 
-  left-kind : {kind : Kind} {x : Row} → r .kind ≡ kind → rowAt p at ≡ some x → eqb (x .0) (r .row .0) ≡ true → accessLeft c p r ≡ transferLeft c p kind at
-  left-kind t o e = left-transfer o e ∙ ap (λ (kind : Kind). transferLeft c p kind at) t
-
-  left-precharge : {x : Row} → rowAt p at ≡ some x → eqb (x .0) (r .row .0) ≡ false → accessLeft c p r ≡ prechargeLeft c p at
+  left-precharge : {y : Row} → rowAt p at ≡ some y → eqb (y .0) (x .row .0) ≡ false → accessLeft c p kind x ≡ prechargeLeft c p at
   unfolding accessLeft
   left-precharge o e = rw (o, e)
 
-  left-activate : rowAt p at ≡ none → accessLeft c p r ≡ activateLeft c p at
+  left-activate : rowAt p at ≡ none → accessLeft c p kind x ≡ activateLeft c p at
   unfolding accessLeft
   left-activate o = rw o
 
@@ -317,12 +300,19 @@ module _ {c : Config} (ok : Accepted c) (p : Past) (programmed : p .programmed �
       (quiet-advances Nop (CasLatency i (left - 1)) refl refl (rested ok p Nop refl h, omega arith, omega arith) (omega arith) (omega arith) (λ o. o)))
 
   -- an access
-  module _ (i : ℕ) (h : c .rfc ≤ ageOf p refreshCycle) (inside : Holds (c .geometry) (cellHeld (getOf q i))) where
+  module _ (i : ℕ) (h : c .rfc ≤ ageOf p refreshCycle) where
     abbrev r : Request
     r = getOf q i
 
+    -- its cell, and that cell's bank
+    abbrev x : Cell
+    x = cellHeld (c .geometry) r
+
     abbrev b : ℕ
-    b = r .bank .0
+    b = x .bank .0
+
+    inside : Holds (c .geometry) x
+    inside = cell-within (c .geometry) (r .address)
 
     four : b < 4
     four = bank-four ok inside
@@ -334,12 +324,12 @@ module _ {c : Config} (ok : Accepted c) (p : Past) (programmed : p .programmed �
     still : rowAt (sentOf p Nop) b ≡ rowAt p b
     still = nop-row p b four
 
-    access-waits : accessLeft c (sentOf p Nop) r + 1 ≤ accessLeft c p r → Advanced c p q (Access i) n (sending p Nop (quietly (Access i)))
+    access-waits : accessLeft c (sentOf p Nop) (r .kind) x + 1 ≤ accessLeft c p (r .kind) x → Advanced c p q (Access i) n (sending p Nop (quietly (Access i)))
     unfolding marksOf
     access-waits left = quiet-advances Nop (Access i) refl refl (rested ok p Nop refl h) left (omega arith) (λ o. o)
 
-    precharge-access : {x : Row} → rowAt p b ≡ some x → eqb (x .0) (r .row .0) ≡ false
-        → Advanced c p q (Access i) n (performedOf c p (tries (Pre (r .bank)) (Access i) (Access i)))
+    precharge-access : {y : Row} → rowAt p b ≡ some y → eqb (y .0) (x .row .0) ≡ false
+        → Advanced c p q (Access i) n (performedOf c p (tries (Pre (x .bank)) (Access i) (Access i)))
     unfolding tries marksOf prechargeLeft activateLeft
     precharge-access o e =
         performed-both c p (Advanced c p q (Access i) n) (tries k (Access i) (Access i))
@@ -347,8 +337,8 @@ module _ {c : Config} (ok : Accepted c) (p : Past) (programmed : p .programmed �
         quiet-advances k (Access i) refl refl (rested ok p k refl h)
         (omega (
           arith,
-          left-precharge c p r o e,
-          left-activate c (sentOf p k) r (pre-row p (r .bank) four),
+          left-precharge c p (r .kind) x o e,
+          left-activate c (sentOf p k) (r .kind) x (pre-row p (x .bank) four),
           short-new c p k (rowPrecharge b) four (eq-eqb b b refl),
           short-falls ok p k (rowCycle b) four refl .by,
           others-fall ok p k b (λ x. refl) .by,
@@ -356,80 +346,87 @@ module _ {c : Config} (ok : Accepted c) (p : Past) (programmed : p .programmed �
         ))
         (omega arith) (λ x. x))
         (λ l.
-        let w : 1 ≤ bankHeld c p b = waits (bankHeld c p b) (pre-ready c p ready (r .bank) (inside .bank) (ap {A = Option Row} isSome o)) l in
+        let w : 1 ≤ bankHeld c p b = waits (bankHeld c p b) (pre-ready c p ready (x .bank) (inside .bank) (ap {A = Option Row} isSome o)) l in
         access-waits
         (omega (
           arith,
-          left-precharge c p r o e,
-          left-precharge c (sentOf p Nop) r (still ∙ o) e,
+          left-precharge c p (r .kind) x o e,
+          left-precharge c (sentOf p Nop) (r .kind) x (still ∙ o) e,
           bank-falls ok p Nop b four refl refl .by,
           short-falls ok p Nop (rowCycle b) four refl .by,
           others-fall ok p Nop b (λ x. refl) .by,
         )))
       where
         k : Command
-        k = Pre (r .bank)
+        k = Pre (x .bank)
 
     -- after its ACT a read or a write takes tRCD + CL + 1 slots at most
-    opened-left : (p' : Past) → rowAt p' b ≡ some (r .row) → short c p' (rowToColumn b) ≡ c .rcd - 1 → short c p' readToWrite + 1 ≤ c .latency + 2
-        → accessLeft c p' r ≤ c .rcd + c .latency + 1
+    opened-left : (p' : Past) → rowAt p' b ≡ some (x .row) → short c p' (rowToColumn b) ≡ c .rcd - 1 → short c p' readToWrite + 1 ≤ c .latency + 2
+        → accessLeft c p' (r .kind) x ≤ c .rcd + c .latency + 1
     unfolding transferLeft
-    opened-left p' o new s = rw (left-transfer c p' r o (eq-eqb (r .row .0) (r .row .0) refl)) (go (r .kind))
+    opened-left p' o new s = rw (left-transfer c p' (r .kind) x o (eq-eqb (x .row .0) (x .row .0) refl)) (go (r .kind))
       where
         go : (kind : Kind) → transferLeft c p' kind b ≤ c .rcd + c .latency + 1
         go Kind.Read = omega (arith, ok .rcd-least)
         go Kind.Write = omega (arith, ok .rcd-least)
 
-    activate-access : rowAt p b ≡ none → Advanced c p q (Access i) n (performedOf c p (tries (Act (r .bank) (r .row)) (Access i) (Access i)))
+    activate-access : rowAt p b ≡ none → Advanced c p q (Access i) n (performedOf c p (tries (Act (x .bank) (x .row)) (Access i) (Access i)))
     unfolding tries marksOf activateLeft
     activate-access o =
         performed-both c p (Advanced c p q (Access i) n) (tries k (Access i) (Access i))
         (λ l.
-        let s : accessLeft c (sentOf p k) r ≤ c .rcd + c .latency + 1
+        let s : accessLeft c (sentOf p k) (r .kind) x ≤ c .rcd + c .latency + 1
         = opened-left (sentOf p k) (act-row p _ _ four) (short-new c p k (rowToColumn b) four (eq-eqb b b refl)) (short-least ok (aged-sent p k) readToWrite tt) in
-        quiet-advances k (Access i) refl refl (rested ok p k refl h) (omega (arith, left-activate c p r o)) (omega arith) (λ x. x))
+        quiet-advances k (Access i) refl refl (rested ok p k refl h) (omega (arith, left-activate c p (r .kind) x o)) (omega arith) (λ x. x))
         (λ l.
         let w : 1 ≤ short c p (rowPrecharge b) + short c p (rowCycle b) + othersHeld c p b
-        = waits _ (λ z. act-ready c p ready (r .bank) (r .row) (inside .bank) (inside .row) programmed (ap {A = Option Row} isSome o) (omega arith) (omega arith) (omega arith)) l in
+        = waits _ (λ z. act-ready c p ready (x .bank) (x .row) (inside .bank) (inside .row) programmed (ap {A = Option Row} isSome o) (omega arith) (omega arith) (omega arith)) l in
         access-waits
         (omega (
           arith,
-          left-activate c p r o,
-          left-activate c (sentOf p Nop) r (still ∙ o),
+          left-activate c p (r .kind) x o,
+          left-activate c (sentOf p Nop) (r .kind) x (still ∙ o),
           short-falls ok p Nop (rowPrecharge b) four refl .by,
           short-falls ok p Nop (rowCycle b) four refl .by,
           others-fall ok p Nop b (λ x. refl) .by,
         )))
       where
         k : Command
-        k = Act (r .bank) (r .row)
+        k = Act (x .bank) (x .row)
 
-    module _ {x : Row} (o : rowAt p b ≡ some x) (e : eqb (x .0) (r .row .0) ≡ true) where
+    module _ {y : Row} (o : rowAt p b ≡ some y) (e : eqb (y .0) (x .row .0) ≡ true) where
       opened : isSome (rowAt p b) ≡ true
       opened = ap {A = Option Row} isSome o
 
-      read-access : r .kind ≡ Kind.Read → Advanced c p q (Access i) n (performedOf c p (readPlan c i r))
+      -- what is left of it, now and after a NOP
+      left-now : {kind : Kind} → r .kind ≡ kind → accessLeft c p (r .kind) x ≡ transferLeft c p kind b
+      left-now t = left-transfer c p (r .kind) x o e ∙ ap (λ (kind : Kind). transferLeft c p kind b) t
+
+      left-next : {kind : Kind} → r .kind ≡ kind → accessLeft c (sentOf p Nop) (r .kind) x ≡ transferLeft c (sentOf p Nop) kind b
+      left-next t = left-transfer c (sentOf p Nop) (r .kind) x (still ∙ o) e ∙ ap (λ (kind : Kind). transferLeft c (sentOf p Nop) kind b) t
+
+      read-access : r .kind ≡ Kind.Read → Advanced c p q (Access i) n (performedOf c p (readPlan c i x))
       unfolding readPlan tries marksOf transferLeft
       read-access t =
-          let now : accessLeft c p r ≡ transferLeft c p Kind.Read b = left-kind c p r t o e in
-          let next : accessLeft c (sentOf p Nop) r ≡ transferLeft c (sentOf p Nop) Kind.Read b = left-kind c (sentOf p Nop) r t (still ∙ o) e in
-          performed-both c p (Advanced c p q (Access i) n) (readPlan c i r)
+          let now : accessLeft c p (r .kind) x ≡ transferLeft c p Kind.Read b = left-now t in
+          let next : accessLeft c (sentOf p Nop) (r .kind) x ≡ transferLeft c (sentOf p Nop) Kind.Read b = left-next t in
+          performed-both c p (Advanced c p q (Access i) n) (readPlan c i x)
           (λ l.
           quiet-advances k (CasLatency i (c .latency)) refl refl (rested ok p k refl h, omega (arith, ok .latency-least), omega arith) (omega arith) (omega arith) (λ x. x))
           (λ l.
           let w : 1 ≤ short c p (rowToColumn b)
-          = waits _ (read-ready c p ready (r .bank) (r .column) (inside .bank) (inside .column) opened) l in
+          = waits _ (read-ready c p ready (x .bank) (x .column) (inside .bank) (inside .column) opened) l in
           access-waits (omega (arith, short-falls ok p Nop (rowToColumn b) four refl .by)))
         where
           k : Command
-          k = Read (r .bank) (r .column)
+          k = Read (x .bank) (x .column)
 
-      write-access : r .kind ≡ Kind.Write → Advanced c p q (Access i) n (performedOf c p (writePlan i r))
+      write-access : r .kind ≡ Kind.Write → Advanced c p q (Access i) n (performedOf c p (writePlan i r x))
       unfolding writePlan marksOf transferLeft queueAfter countersAfter
       write-access t =
-          let now : accessLeft c p r ≡ transferLeft c p Kind.Write b = left-kind c p r t o e in
-          let next : accessLeft c (sentOf p Nop) r ≡ transferLeft c (sentOf p Nop) Kind.Write b = left-kind c (sentOf p Nop) r t (still ∙ o) e in
-          performed-both c p (Advanced c p q (Access i) n) (writePlan i r)
+          let now : accessLeft c p (r .kind) x ≡ transferLeft c p Kind.Write b = left-now t in
+          let next : accessLeft c (sentOf p Nop) (r .kind) x ≡ transferLeft c (sentOf p Nop) Kind.Write b = left-next t in
+          performed-both c p (Advanced c p q (Access i) n) (writePlan i r x)
           (λ l.
           record {
             programmed = programmed-kept p k programmed;
@@ -440,46 +437,46 @@ module _ {c : Config} (ok : Accepted c) (p : Past) (programmed : p .programmed �
           })
           (λ l.
           let w : 1 ≤ short c p (rowToColumn b) + short c p readToWrite
-          = waits _ (λ z. wrt-ready c p ready (r .bank) (r .column) (r .halfword) (inside .bank) (inside .column) opened (omega arith) (omega arith)) l in
+          = waits _ (λ z. wrt-ready c p ready (x .bank) (x .column) (r .halfword) (inside .bank) (inside .column) opened (omega arith) (omega arith)) l in
           let f = short-falls ok p Nop readToWrite tt refl in
           access-waits (omega (arith, short-falls ok p Nop (rowToColumn b) four refl .by)))
         where
           k : Command
-          k = Wrt (r .bank) (r .column) (r .halfword)
+          k = Wrt (x .bank) (x .column) (r .halfword)
 
-      transfer-access : Advanced c p q (Access i) n (performedOf c p (transferPlan c i r (r .kind)))
+      transfer-access : Advanced c p q (Access i) n (performedOf c p (transferPlan c i r x (r .kind)))
       unfolding transferPlan
       transfer-access = go (r .kind) refl
         where
-          go : (kind : Kind) → r .kind ≡ kind → Advanced c p q (Access i) n (performedOf c p (transferPlan c i r kind))
+          go : (kind : Kind) → r .kind ≡ kind → Advanced c p q (Access i) n (performedOf c p (transferPlan c i r x kind))
           go Kind.Read t = read-access t
           go Kind.Write t = write-access t
 
-    access-advances : Advanced c p q (Access i) n (performedOf c p (accessPlan c (rowAt p b) i r))
+    access-advances : Advanced c p q (Access i) n (performedOf c p (accessPlan c (rowAt p b) i r x))
     unfolding accessPlan
     access-advances = go (rowAt p b) refl
       where
-        go : (x : Option Row) → rowAt p b ≡ x → Advanced c p q (Access i) n (performedOf c p (accessPlan c x i r))
+        go : (y : Option Row) → rowAt p b ≡ y → Advanced c p q (Access i) n (performedOf c p (accessPlan c y i r x))
         go none o = activate-access o
-        go (some x) o =
-            if-both (λ y. Advanced c p q (Access i) n (performedOf c p y)) (eqb (x .0) (r .row .0)) (λ e. transfer-access o e) (λ e. precharge-access o e)
+        go (some y) o =
+            if-both (λ plan. Advanced c p q (Access i) n (performedOf c p plan)) (eqb (y .0) (x .row .0)) (λ e. transfer-access o e) (λ e. precharge-access o e)
 
 -- a slot of an action under way
 pub act-advances : {c : Config} → Accepted c → {p : Past} → p .programmed ≡ true → 2 ≤ ageOf p modeRegister → (q : Queue) (a : Action)
-    → Settled c p a → Placed c q a → isIdle a ≡ false → (n : Counters) (bus : ℕ) → Advanced c p q a n (servedOf c p (getOf q (underWay a)) a bus)
+    → Settled c p a → isIdle a ≡ false → (n : Counters) (bus : ℕ) → Advanced c p q a n (servedOf c p (getOf q (underWay a)) a bus)
 unfolding servedOf planOf
-act-advances ok {p} programmed mode q (PowerUp k) s h i n bus = absurd s
-act-advances ok {p} programmed mode q InitPrecharge s h i n bus = absurd s
-act-advances ok {p} programmed mode q (InitRefresh k) s h i n bus = absurd s
-act-advances ok {p} programmed mode q InitMode s h i n bus = absurd s
-act-advances ok {p} programmed mode q InitSettle s h i n bus = absurd s
-act-advances ok {p} programmed mode q Idle s h i n bus = absurd (true≢false i)
-act-advances ok {p} programmed mode q (Access at) s h i n bus = access-advances ok p programmed mode q n at s h
-act-advances ok {p} programmed mode q (CasLatency at left) s h i n bus = latency-advances ok p programmed mode q n at left bus (s .0) (s .1) (s .2)
-act-advances ok {p} programmed mode q Turnaround s h i n bus = turnaround-advances ok p programmed mode q n s
-act-advances ok {p} programmed mode q PrechargeAll s h i n bus = precharge-advances ok p programmed mode q n s
-act-advances ok {p} programmed mode q Refresh s h i n bus = refresh-advances ok p programmed mode q n (s .0) (s .1)
-act-advances ok {p} programmed mode q (RefreshCycle left) s h i n bus = cycle-advances ok p programmed mode q n left (s .0) (s .1) (s .2)
+act-advances ok {p} programmed mode q (PowerUp k) s i n bus = absurd s
+act-advances ok {p} programmed mode q InitPrecharge s i n bus = absurd s
+act-advances ok {p} programmed mode q (InitRefresh k) s i n bus = absurd s
+act-advances ok {p} programmed mode q InitMode s i n bus = absurd s
+act-advances ok {p} programmed mode q InitSettle s i n bus = absurd s
+act-advances ok {p} programmed mode q Idle s i n bus = absurd (true≢false i)
+act-advances ok {p} programmed mode q (Access at) s i n bus = access-advances ok p programmed mode q n at s
+act-advances ok {p} programmed mode q (CasLatency at left) s i n bus = latency-advances ok p programmed mode q n at left bus (s .0) (s .1) (s .2)
+act-advances ok {p} programmed mode q Turnaround s i n bus = turnaround-advances ok p programmed mode q n s
+act-advances ok {p} programmed mode q PrechargeAll s i n bus = precharge-advances ok p programmed mode q n s
+act-advances ok {p} programmed mode q Refresh s i n bus = refresh-advances ok p programmed mode q n (s .0) (s .1)
+act-advances ok {p} programmed mode q (RefreshCycle left) s i n bus = cycle-advances ok p programmed mode q n left (s .0) (s .1) (s .2)
 
 -- What is left of an action at its choice.
 
@@ -512,20 +509,23 @@ module _ {c : Config} (ok : Accepted c) {p : Past} (aged : Aged p) (b : ℕ) (fo
   unfolding prechargeLeft
   precharge-bound = omega (arith, rc-least, others-least ok aged b, bank-least ok aged b four, ok .access-span)
 
-pub access-bound : {c : Config} → Accepted c → {p : Past} → Aged p → (q : Queue) (i : ℕ) → Placed c q (Access i) → leftOf c p q (Access i) + 3 ≤ c .access
+pub access-bound : {c : Config} → Accepted c → {p : Past} → Aged p → (q : Queue) (i : ℕ) → leftOf c p q (Access i) + 3 ≤ c .access
 unfolding accessLeft
-access-bound {c} ok {p} aged q i h = go (rowAt p b)
+access-bound {c} ok {p} aged q i = go (rowAt p b)
   where
     Bound : ℕ → Type 0
-    Bound x = x + 3 ≤ c .access
+    Bound n = n + 3 ≤ c .access
+
+    x : Cell
+    x = cellHeld (c .geometry) (getOf q i)
 
     b : ℕ
-    b = getOf q i .bank .0
+    b = x .bank .0
 
     four : b < 4
-    four = bank-four ok h
+    four = bank-four ok (cell-within (c .geometry) (getOf q i .address))
 
-    go : (x : Option Row) → Bound (rowLeft c p x (getOf q i))
+    go : (y : Option Row) → Bound (rowLeft c p y (getOf q i .kind) x)
     go none = activate-bound ok aged b four
-    go (some x) =
-        if-both Bound (eqb (x .0) (getOf q i .row .0)) (λ e. transfer-bound ok aged b four (getOf q i .kind)) (λ e. precharge-bound ok aged b four)
+    go (some y) =
+        if-both Bound (eqb (y .0) (x .row .0)) (λ e. transfer-bound ok aged b four (getOf q i .kind)) (λ e. precharge-bound ok aged b four)

@@ -58,7 +58,7 @@ use Rattle.model.specs.Sdram.{Sdram}
 use Rattle.model.specs.Flat.{Flat}
 use Rattle.model.specs.Condition.{isRefr}
 use Rattle.model.proofs.Invariant.{Good, Doing, leftOf, needOf, Settled, Owing, Timely}
-use Rattle.model.proofs.Timing.Actions.{Placed, queueLeft, Backlog, stays, falls, Advanced, mode-sent, rested, act-advances, refresh-bound, access-bound}
+use Rattle.model.proofs.Timing.Actions.{queueLeft, Backlog, stays, falls, Advanced, mode-sent, rested, act-advances, refresh-bound, access-bound}
 
 -- the request of an access is queued
 abbrev pub Queued : Queue → Action → Type 0
@@ -74,33 +74,6 @@ Queued q Turnaround = Unit {0}
 Queued q PrechargeAll = Unit {0}
 Queued q Refresh = Unit {0}
 Queued q (RefreshCycle left) = Unit {0}
-
--- every queued request has a cell of the geometry
-pub record AllPlaced (c : Config) (q : Queue) : Type 0 where
-  pub inside : (i : ℕ) → i < q .count → Holds (c .geometry) (cellHeld (getOf q i))
-
-placed-queued : {c : Config} {q : Queue} → AllPlaced c q → (a : Action) → Queued q a → Placed c q a
-placed-queued all (PowerUp k) h = tt
-placed-queued all InitPrecharge h = tt
-placed-queued all (InitRefresh k) h = tt
-placed-queued all InitMode h = tt
-placed-queued all InitSettle h = tt
-placed-queued all Idle h = tt
-placed-queued all (Access i) h = all .inside i h
-placed-queued all (CasLatency i left) h = tt
-placed-queued all Turnaround h = tt
-placed-queued all PrechargeAll h = tt
-placed-queued all Refresh h = tt
-placed-queued all (RefreshCycle left) h = tt
-
--- as parts A and B have it
-pub all-placed : {c : Config} {q : Queue} → Tidy q → Each (Good (c .geometry)) (heldOf q) → AllPlaced c q
-all-placed {c} {q} t good = record { inside = inside }
-  where
-    inside : (i : ℕ) → i < q .count → Holds (c .geometry) (cellHeld (getOf q i))
-    inside i h =
-        let g = each-at good i (rw (tidy-length t) h) in
-        rw (get-held i t, g .cell) (cell-within (c .geometry) _ (g .ok .1))
 
 pub queued-doing : {q : Queue} → Tidy q → (d : Sdram) (f : Flat) (a : Action) → Doing q d f a → Queued q a
 queued-doing t d f (PowerUp k) h = tt
@@ -121,7 +94,6 @@ pub record Starts (c : Config) (p : Past) (q : Queue) (a : Action) (n : Counters
   pub programmed : p .programmed ≡ true
   pub mode : 2 ≤ ageOf p modeRegister
   pub settled : Settled c p a
-  pub placed : Placed c q a
   pub owing : Owing a n
   pub bounded : needOf c p q a < c .rr
   pub low : n .backlog ≤ 12
@@ -190,7 +162,7 @@ module _ {c : Config} (ok : Accepted c) {p : Past} {q : Queue} {n : Counters} wh
       })
 
   busy : (a : Action) → isIdle a ≡ false → Starts c p q a n → (bus : ℕ) → Ends c n q a (servedOf c p (getOf q (underWay a)) a bus)
-  busy a i x bus = advanced-ends x (act-advances ok (x .programmed) (x .mode) q a (x .settled) (x .placed) i n bus)
+  busy a i x bus = advanced-ends x (act-advances ok (x .programmed) (x .mode) q a (x .settled) i n bus)
 
   timely-acts : (a : Action) → Starts c p q a n → (bus : ℕ) → Ends c n q a (servedOf c p (getOf q (underWay a)) a bus)
   unfolding servedOf planOf
@@ -245,17 +217,16 @@ owing-more (RefreshCycle left) n m h o = tt
 -- The action under way goes on.
 
 continued : {c : Config} → Accepted c → {p : Past} {q : Queue} {a : Action} {n : Counters}
-    → Timely c p q a n → Placed c q a → isIdle a ≡ false → (bus : ℕ)
+    → Timely c p q a n → isIdle a ≡ false → (bus : ℕ)
     → Ends c (tickOf n (c .rr)) q a (servedOf c p (getOf q (underWay a)) a bus)
-continued {c} ok {p} {q} {a} {n} t placed i bus =
-    let d = act-advances ok (t .programmed) (t .mode) q a (t .settled) placed i n bus in
+continued {c} ok {p} {q} {a} {n} t i bus =
+    let d = act-advances ok (t .programmed) (t .mode) q a (t .settled) i n bus in
     let k = ticked (c .rr) (needOf c p q a) n (omega (arith, d .left)) (t .bounded) (t .low) (t .full) in
     timely-acts ok a
     (record {
       programmed = t .programmed;
       mode = t .mode;
       settled = t .settled;
-      placed = placed;
       owing = owing-more a _ _ (k .1) (t .owing);
       bounded = t .bounded;
       low = k .0 .low;
@@ -279,7 +250,7 @@ idle-owed Release b closed w e = omega arith
 idle-owed Need b closed w e = absurd (false≢true e)
 idle-owed Must b closed w e = absurd (false≢true e)
 
-module _ {c : Config} (ok : Accepted c) {p : Past} (aged : Aged p) {q : Queue} (tidy : Tidy q) (all : AllPlaced c q) {m : Counters} (t : Timely c p q Idle m) where
+module _ {c : Config} (ok : Accepted c) {p : Past} (aged : Aged p) {q : Queue} {m : Counters} (t : Timely c p q Idle m) where
   -- the counters of the slot
   abbrev n : Counters
   n = tickOf m (c .rr)
@@ -295,7 +266,6 @@ module _ {c : Config} (ok : Accepted c) {p : Past} (aged : Aged p) {q : Queue} (
         programmed = t .programmed;
         mode = t .mode;
         settled = t .settled;
-        placed = tt;
         owing = owed;
         bounded = omega (arith, t .bounded);
         low = counted .low;
@@ -308,7 +278,6 @@ module _ {c : Config} (ok : Accepted c) {p : Past} (aged : Aged p) {q : Queue} (
         programmed = t .programmed;
         mode = t .mode;
         settled = t .settled;
-        placed = tt;
         owing = tt;
         bounded = t .bounded;
         low = counted .low;
@@ -317,13 +286,11 @@ module _ {c : Config} (ok : Accepted c) {p : Past} (aged : Aged p) {q : Queue} (
 
   access-starts : n .backlog ≤ 11 → (kind : Kind) (i : ℕ) → oldestOf kind (heldOf q) ≡ At i → Starts c p q (Access i) n
   access-starts h kind i e =
-      let within : i < q .count = rw (← tidy-length tidy) (oldest-found kind (heldOf q) i e .servable .within) in
-      let b : leftOf c p q (Access i) + 3 ≤ c .access = access-bound ok aged q i (all .inside i within) in
+      let b : leftOf c p q (Access i) + 3 ≤ c .access = access-bound ok aged q i in
       record {
         programmed = t .programmed;
         mode = t .mode;
         settled = t .settled;
-        placed = all .inside i within;
         owing = tt;
         bounded = omega (arith, ok .long-enough);
         low = counted .low;
@@ -362,17 +329,17 @@ as-idle PrechargeAll e x = absurd (false≢true e)
 as-idle Refresh e x = absurd (false≢true e)
 as-idle (RefreshCycle left) e x = absurd (false≢true e)
 
-pub timely-slot : {c : Config} → Accepted c → {p : Past} → Aged p → {q : Queue} → Tidy q → AllPlaced c q → (x : Control) → Queued q (x .action) → {m : Counters}
+pub timely-slot : {c : Config} → Accepted c → {p : Past} → Aged p → {q : Queue} (x : Control) → {m : Counters}
     → Timely c p q (x .action) m → (closed : Bool) (bus : ℕ)
     → let t = currentOf x (tickOf m (c .rr) .backlog) q closed in
     Ends c (tickOf m (c .rr)) (t .queue) (t .control .action) (servedOf c p (getOf (t .queue) (underWay (t .control .action))) (t .control .action) bus)
 unfolding currentOf choiceOf
-timely-slot {c} ok {p} aged {q} tidy all x under {m} t closed bus =
+timely-slot {c} ok {p} aged {q} x {m} t closed bus =
     if-both
     (λ (y : Choice). Ends c (tickOf m (c .rr)) (y .queue) (y .control .action) (servedOf c p (getOf (y .queue) (underWay (y .control .action))) (y .control .action) bus))
     (isIdle (x .action))
-    (λ e. timely-acts ok _ (choice-starts ok aged tidy all (as-idle (x .action) e t) (x .must) closed) bus)
-    (λ e. continued ok t (placed-queued all (x .action) under) e bus)
+    (λ e. timely-acts ok _ (choice-starts ok aged (as-idle (x .action) e t) (x .must) closed) bus)
+    (λ e. continued ok t e bus)
 
 -- A request arrives between slots.
 
