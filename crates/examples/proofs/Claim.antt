@@ -11,7 +11,6 @@ use Rattle.device.specs.Rules.{R7, R12-open, R13-open, R14, requirements, legal
 use Rattle.ages.specs.Ages.{freshOf, openedOf, rowIn, rowAt, agedOf, agesAfter, sentOf}
 use Rattle.queue.specs.Places.{without, emptyOf, acceptOf, removeOf, getOf}
 use Rattle.queue.specs.Oldest.{blockedOf, readyOf, oldestOf}
-
 use Rattle.refresh.specs.Counting.{startOf, tickOf, refreshedOf, soundCounters}
 use Rattle.refresh.specs.Urgency.{levelOf}
 use Rattle.plan.specs.Actions.{soundAction}

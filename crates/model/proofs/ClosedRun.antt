@@ -20,7 +20,6 @@ use Rattle.device.specs.History.{last, openRow, startLog, fed}
 use Rattle.ages.specs.Ages.{freshOf, openedOf, rowIn, rowAt, agedOf, agesAfter, sentOf}
 use Rattle.queue.specs.Places.{without, emptyOf, acceptOf, removeOf, getOf}
 use Rattle.queue.specs.Oldest.{blockedOf, readyOf, oldestOf}
-
 use Rattle.refresh.specs.Counting.{startOf, tickOf, refreshedOf, expiriesOf, soundCounters}
 use Rattle.refresh.specs.Urgency.{levelOf}
 use Rattle.plan.specs.Actions.{soundAction}

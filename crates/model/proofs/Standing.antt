@@ -3,25 +3,18 @@ use Prim.Native.Nat.{ℕ, _+_, _≤_}
 use native.Mathlib.Omega.{arith}
 use mathlib.Core.Path.{_≡_, refl, sym, ap, _∙_}
 use mathlib.Core.Bool.{Bool, true, false, false≢true}
-use mathlib.Core.List.{List}
 use lib.Dec.{leb}
 use lib.ListN.{length}
 use lib.Pow.{pow-mono}
 use borrow.Author.Tests.{le-leb, lt-leb}
 use Rattle.config.specs.declared.Config.{Config}
-use Rattle.config.specs.declared.Geometry.{Geometry}
 use Rattle.config.specs.Accepted.{Accepted}
-use Rattle.address.proofs.Laws.{cell-within}
 use Rattle.device.specs.View.{allClosed}
 use Rattle.device.proofs.Alike.{allClosed-same}
 use Rattle.ages.specs.declared.Past.{Past}
 use Rattle.ages.specs.Ages.{rowAt}
 use Rattle.ages.proofs.Agree.{alike, same-verdict}
 use Rattle.queue.specs.declared.Queue.{Queue}
-use Rattle.queue.specs.declared.Request.{Request}
-use Rattle.queue.specs.Places.{heldOf}
-use Rattle.queue.proofs.Order.{Each}
-use Rattle.queue.proofs.Each.{each-map}
 use Rattle.queue.proofs.Tidy.{Tidy, tidy-length}
 use Rattle.refresh.specs.declared.Counters.{Counters}
 use Rattle.refresh.specs.Counting.{startOf, expiriesOf}
@@ -50,7 +43,7 @@ use Rattle.model.specs.Sdram.{Sdram}
 use Rattle.model.specs.Flat.{Flat}
 use Rattle.model.specs.World.{World}
 use Rattle.model.specs.Condition.{firstService, servedBy, expiries, refreshes, Standing, Exact}
-use Rattle.model.proofs.Invariant.{Kept, Good, Doing, Ordered, Settled, Timely}
+use Rattle.model.proofs.Invariant.{Kept, Doing, Ordered, Settled, Timely}
 use Rattle.model.proofs.Order.Queue.{ordered-agree}
 use Rattle.model.proofs.Calls.{backlog-reads}
 use Rattle.model.proofs.Start.{Starting, starting-below}

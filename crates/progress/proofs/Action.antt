@@ -10,6 +10,8 @@ use borrow.Author.Tests.{leb-false}
 use Rattle.config.specs.declared.Config.{Config}
 use Rattle.config.specs.Accepted.{Accepted}
 use Rattle.address.specs.declared.Row.{Row}
+use Rattle.address.specs.declared.Cell.{Cell}
+use Rattle.address.proofs.Laws.{cell-within}
 use Rattle.command.specs.declared.Command.the-variants.{Nop, Act, Read, Pre, Deac}
 use Rattle.device.specs.View.{modeRegister, refreshCycle, anyPrecharge, marksOf, allClosed}
 use Rattle.device.proofs.Tests.{if-both}
@@ -18,7 +20,7 @@ use Rattle.ages.specs.Ages.{ageOf, rowAt, sentOf}
 use Rattle.queue.specs.declared.Kind.{Kind}
 use Rattle.queue.specs.declared.Queue.{Queue}
 use Rattle.queue.specs.declared.Request.{Request}
-use Rattle.queue.specs.Places.{getOf}
+use Rattle.queue.specs.Places.{cellHeld, getOf}
 use Rattle.plan.specs.declared.Action.{Action}
 use Rattle.plan.specs.declared.Action.the-variants.{
   PowerUp,
@@ -41,7 +43,7 @@ use Rattle.plan.proofs.Sound.{SoundAction}
 use Rattle.soundness.proofs.Plans.{Served, performedOf, servedOf, sending, performed-both, rest-only}
 use Rattle.model.proofs.Invariant.{leftOf, Settled}
 use Rattle.model.proofs.Timing.Distances.{short-falls, all-falls}
-use Rattle.model.proofs.Timing.Actions.{Placed, queueLeft, act-advances, bank-four}
+use Rattle.model.proofs.Timing.Actions.{queueLeft, act-advances, bank-four}
 use Rattle.progress.specs.Progress.{choiceWithin}
 use Rattle.progress.proofs.Distances.{gap, R2Kept, gap-falls, gap-ready, ready-gap, legal-r2, gap-most, short-most, all-most, access-most, access-waits}
 
@@ -104,7 +106,6 @@ module _ {c : Config} (ok : Accepted c) (p : Past) (q : Queue) where
   pub record Going (a : Action) : Type 0 where
     pub service : inService a ≡ true
     pub sound : SoundAction c (p .programmed) (allClosed (rowAt p)) (q .count) a
-    pub placed : Placed c q a
 
   -- R2 is kept
   free : (a : Action) → Going a → isIdle a ≡ false → gap c p ≡ 0 → (bus : ℕ) → Nearer a (servedOf c p (getOf q (underWay a)) a bus)
@@ -112,7 +113,7 @@ module _ {c : Config} (ok : Accepted c) (p : Past) (q : Queue) where
       let r = gap-ready c p z in
       let t = sound-settled c p (q .count) a (g .service) (r .cycle) (g .sound) in
       let s = servedOf c p (getOf q (underWay a)) a bus in
-      let d = act-advances ok (t .0) (r .mode) q a (t .1) (g .placed) i (startOf 0) bus in
+      let d = act-advances ok (t .0) (r .mode) q a (t .1) i (startOf 0) bus in
       let x : cond (sends (s .outcome .action)) (gap c (s .past)) 0 ≡ 0 = settled-gap c (s .past) (s .outcome .action) (d .mode) (d .settled) in
       let y : cond (sends a) (gap c p) 0 ≡ 0 = if-both (λ n. n ≡ 0) (sends a) (λ e. z) (λ e. refl) in
       record { by = omega (arith, d .left) }
@@ -125,18 +126,18 @@ module _ {c : Config} (ok : Accepted c) (p : Past) (q : Queue) where
         (λ l. let z = f (legal-r2 c p (plan .command) l) in absurd (omega (arith, h)))
         (λ l. refl)
 
-    transfer-off : (i : ℕ) (r : Request) (kind : Kind) → performedOf c p (transferPlan c i r kind) ≡ sending p Nop (quietly (Access i))
+    transfer-off : (i : ℕ) (r : Request) (x : Cell) (kind : Kind) → performedOf c p (transferPlan c i r x kind) ≡ sending p Nop (quietly (Access i))
     unfolding transferPlan readPlan writePlan tries
-    transfer-off i r Kind.Read = put-off (readPlan c i r) (λ z. z)
-    transfer-off i r Kind.Write = put-off (writePlan i r) (λ z. z)
+    transfer-off i r x Kind.Read = put-off (readPlan c i x) (λ z. z)
+    transfer-off i r x Kind.Write = put-off (writePlan i r x) (λ z. z)
 
-    access-off : (i : ℕ) (r : Request) (x : Option Row) → performedOf c p (accessPlan c x i r) ≡ sending p Nop (quietly (Access i))
+    access-off : (i : ℕ) (r : Request) (x : Cell) (y : Option Row) → performedOf c p (accessPlan c y i r x) ≡ sending p Nop (quietly (Access i))
     unfolding accessPlan tries
-    access-off i r none = put-off (tries (Act (r .bank) (r .row)) (Access i) (Access i)) (λ z. z)
-    access-off i r (some x) =
-        if-both (λ y. performedOf c p y ≡ sending p Nop (quietly (Access i))) (eqb (x .0) (r .row .0))
-        (λ e. transfer-off i r (r .kind))
-        (λ e. put-off (tries (Pre (r .bank)) (Access i) (Access i)) (λ z. z))
+    access-off i r x none = put-off (tries (Act (x .bank) (x .row)) (Access i) (Access i)) (λ z. z)
+    access-off i r x (some y) =
+        if-both (λ plan. performedOf c p plan ≡ sending p Nop (quietly (Access i))) (eqb (y .0) (x .row .0))
+        (λ e. transfer-off i r x (r .kind))
+        (λ e. put-off (tries (Pre (x .bank)) (Access i) (Access i)) (λ z. z))
 
     gap-less : gap c (sentOf p Nop) + 1 ≤ gap c p
     unfolding marksOf
@@ -151,8 +152,10 @@ module _ {c : Config} (ok : Accepted c) (p : Past) (q : Queue) where
     held InitSettle g i bus = absurd (false≢true (g .service))
     held Idle g i bus = absurd (true≢false i)
     held (Access at) g i bus =
-        rw (access-off at (getOf q at) (rowAt p (getOf q at .bank .0)))
-        (record { by = omega (arith, gap-less, access-waits ok p (getOf q at) (bank-four ok (g .placed))) })
+        let r = getOf q at in
+        let x = cellHeld (c .geometry) r in
+        let w = access-waits ok p x (bank-four ok (cell-within (c .geometry) (r .address))) (r .kind) in
+        rw (access-off at r x (rowAt p (x .bank .0))) (record { by = omega (arith, gap-less, w) })
     held (CasLatency at left) g i bus =
         if-both (λ x. Nearer (CasLatency at left) (performedOf c p x)) (leb left 1)
         (λ e.
@@ -190,7 +193,7 @@ module _ {c : Config} (ok : Accepted c) (p : Past) (q : Queue) where
   wait-most InitMode g = absurd (false≢true (g .service))
   wait-most InitSettle g = absurd (false≢true (g .service))
   wait-most Idle g = omega (arith, ok .access-span)
-  wait-most (Access i) g = omega (arith, gap-most ok p, access-most ok p (getOf q i))
+  wait-most (Access i) g = omega (arith, gap-most ok p, access-most ok p (getOf q i .kind) (cellHeld (c .geometry) (getOf q i)))
   wait-most (CasLatency i left) g = omega (arith, g .sound .3, ok .access-span)
   wait-most Turnaround g = omega (arith, ok .access-span)
   wait-most PrechargeAll g = omega (arith, gap-most ok p, all-most ok p, ok .refresh-span)

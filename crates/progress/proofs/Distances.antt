@@ -10,6 +10,7 @@ use borrow.Author.Tests.{leb-true}
 use Rattle.config.specs.declared.Config.{Config}
 use Rattle.config.specs.Accepted.{Accepted}
 use Rattle.address.specs.declared.Row.{Row}
+use Rattle.address.specs.declared.Cell.{Cell}
 use Rattle.command.specs.declared.Command.{Command}
 use Rattle.command.specs.declared.Command.the-variants.{Nop, Act, Read, Wrt, Pre, Deac, Refr, Mrs}
 use Rattle.device.specs.View.{
@@ -33,7 +34,6 @@ use Rattle.device.proofs.Tests.{both, if-both}
 use Rattle.ages.specs.declared.Past.{Past}
 use Rattle.ages.specs.Ages.{ageOf, rowAt, byAges, sentOf}
 use Rattle.queue.specs.declared.Kind.{Kind}
-use Rattle.queue.specs.declared.Request.{Request}
 use Rattle.model.proofs.Invariant.{
   short,
   bankHeld,
@@ -144,19 +144,19 @@ module _ {c : Config} (ok : Accepted c) (p : Past) where
   unfolding prechargeLeft
   precharge-most b = omega (arith, bank-most b, short-most (rowCycle b), others-most b, ok .access-span)
 
-  pub access-most : (r : Request) → accessLeft c p r ≤ c .access
+  pub access-most : (kind : Kind) (x : Cell) → accessLeft c p kind x ≤ c .access
   unfolding accessLeft
-  access-most r = go (rowAt p (r .bank .0))
+  access-most kind x = go (rowAt p (x .bank .0))
     where
-      go : (x : Option Row) → rowLeft c p x r ≤ c .access
-      go none = activate-most (r .bank .0)
-      go (some x) =
-          if-both (λ n. n ≤ c .access) (eqb (x .0) (r .row .0)) (λ e. transfer-most (r .kind) (r .bank .0)) (λ e. precharge-most (r .bank .0))
+      go : (y : Option Row) → rowLeft c p y kind x ≤ c .access
+      go none = activate-most (x .bank .0)
+      go (some y) =
+          if-both (λ n. n ≤ c .access) (eqb (y .0) (x .row .0)) (λ e. transfer-most kind (x .bank .0)) (λ e. precharge-most (x .bank .0))
 
   -- An access waits through a NOP.
-  module _ (r : Request) (four : r .bank .0 < 4) where
+  module _ (x : Cell) (four : x .bank .0 < 4) where
     abbrev b : ℕ
-    b = r .bank .0
+    b = x .bank .0
 
     abbrev p' : Past
     p' = sentOf p Nop
@@ -185,13 +185,13 @@ module _ {c : Config} (ok : Accepted c) (p : Past) where
         let z = others-fall ok p Nop b (λ o. refl) in
         omega arith
 
-    pub access-waits : accessLeft c p' r ≤ accessLeft c p r
+    pub access-waits : (kind : Kind) → accessLeft c p' kind x ≤ accessLeft c p kind x
     unfolding accessLeft
-    access-waits = rw (nop-row p b four) (go (rowAt p b))
+    access-waits kind = rw (nop-row p b four) (go (rowAt p b))
       where
-        go : (x : Option Row) → rowLeft c p' x r ≤ rowLeft c p x r
+        go : (y : Option Row) → rowLeft c p' y kind x ≤ rowLeft c p y kind x
         go none = activate-waits
-        go (some x) = both-fall (eqb (x .0) (r .row .0)) (transfer-waits (r .kind)) precharge-waits
+        go (some y) = both-fall (eqb (y .0) (x .row .0)) (transfer-waits kind) precharge-waits
           where
             both-fall : (t : Bool) {u v y z : ℕ} → u ≤ v → y ≤ z → cond t u y ≤ cond t v z
             both-fall true h k = h

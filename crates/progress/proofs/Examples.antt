@@ -13,7 +13,6 @@ use Rattle.ages.specs.declared.Past.{Past}
 use Rattle.ages.specs.Ages.{firstRow, openedOf, rowIn, rowAt, agedOf, agesAfter, sentOf}
 use Rattle.queue.specs.Places.{emptyOf, acceptOf, removeOf, getOf, without}
 use Rattle.queue.specs.Oldest.{blockedOf, readyOf, oldestOf}
-
 use Rattle.refresh.specs.Counting as counting
 use Rattle.refresh.specs.Urgency.{levelOf}
 use Rattle.plan.specs.declared.Action.{Action}

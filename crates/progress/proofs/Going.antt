@@ -56,7 +56,7 @@ request-keeps m kind address halfword =
     record { number = live-number (r .alive) ∙ sym z; config = r .config; service = λ e. ap inService (r .action) ∙ e })
     (λ z.
     request-cases m kind address halfword (λ (r : Requested). Keeps m (r .machine))
-    (λ e. absurd (z (request-record (m .configured) (m .config) (m .past) (m .counters) (m .control) (m .queue) (m .accepted) address e)))
+    (λ e. absurd (z (request-record (m .configured) (m .config) (m .past) (m .counters) (m .control) (m .queue .count) (m .accepted) address e)))
     (λ e. same m))
 
 start-number : (c : Config) → Accepted c → recordNumberOf (machineOf c) ≡ 0

@@ -6,7 +6,6 @@ use mathlib.Core.Bool.{Bool, true, false, cond}
 use Rattle.config.specs.declared.Config.{Config}
 use Rattle.queue.specs.declared.Kind.{Kind}
 use Rattle.queue.specs.declared.Queue.{Queue}
-use Rattle.queue.proofs.Sound.{SoundQueue}
 use Rattle.device.specs.View.{allClosed}
 use Rattle.ages.specs.Ages.{rowAt}
 use Rattle.plan.specs.declared.Action.{Action}
@@ -28,7 +27,6 @@ use Rattle.plan.specs.Actions.{isIdle, inService}
 use Rattle.plan.specs.Choice.{currentOf}
 use Rattle.plan.proofs.Sound.{SoundAction}
 use Rattle.numbers.proofs.Laws as numbers
-use Rattle.soundness.proofs.Queue.{queued-inside}
 use Rattle.sequencer.specs.declared.Machine.{Machine}
 use Rattle.sequencer.specs.declared.Requested.{Requested}
 use Rattle.sequencer.specs.Machine.{stepOf}
@@ -37,7 +35,6 @@ use Rattle.sequencer.proofs.Laws.{SoundFacts, request-facts}
 use Rattle.sequencer.proofs.Sound.{record-facts, step-sound, queued-sound}
 use Rattle.model.proofs.Calls.{request-cases, slot-steps}
 use Rattle.model.proofs.Plans.{chosenOf, actedOf, afterOf, step-is}
-use Rattle.model.proofs.Timing.Actions.{Placed}
 use Rattle.model.proofs.Timing.Service.{Queued, left-arrive}
 use Rattle.progress.proofs.Action.{sends, waitOf, Going, nearer}
 use Rattle.progress.proofs.Distances.{gap}
@@ -49,12 +46,12 @@ pub record Live (m : Machine) : Type 0 where
 pub live : (m : Machine) → recordNumberOf m ≡ 0 → Live m
 live m z =
     record {
-      configured = numbers.record-configured (m .configured) (m .config) (m .past) (m .counters) (m .control) (m .queue) z;
+      configured = numbers.record-configured (m .configured) (m .config) (m .past) (m .counters) (m .control) (m .queue .count) z;
       facts = record-facts m z;
     }
 
 pub live-number : {m : Machine} → Live m → recordNumberOf m ≡ 0
-live-number {m} l = numbers.facts-number (m .configured) (m .config) (m .past) (m .counters) (m .control) (m .queue) (l .configured) (l .facts)
+live-number {m} l = numbers.facts-number (m .configured) (m .config) (m .past) (m .counters) (m .control) (m .queue .count) (l .configured) (l .facts)
 
 -- a slot is a step
 pub slot-is : {m : Machine} → Live m → (bus : ℕ) → slotOf m bus ≡ stepOf m bus
@@ -83,26 +80,11 @@ sound-queued c programmed closed q PrechargeAll s = tt
 sound-queued c programmed closed q Refresh s = tt
 sound-queued c programmed closed q (RefreshCycle left) s = tt
 
-placed : (c : Config) (q : Queue) → SoundQueue (c .geometry) q → (a : Action) → Queued q a → Placed c q a
-placed c q f (PowerUp n) h = tt
-placed c q f InitPrecharge h = tt
-placed c q f (InitRefresh n) h = tt
-placed c q f InitMode h = tt
-placed c q f InitSettle h = tt
-placed c q f Idle h = tt
-placed c q f (Access i) h = queued-inside f i h
-placed c q f (CasLatency i left) h = tt
-placed c q f Turnaround h = tt
-placed c q f PrechargeAll h = tt
-placed c q f Refresh h = tt
-placed c q f (RefreshCycle left) h = tt
-
 queued : {m : Machine} → Live m → Queued (m .queue) (m .control .action)
 queued {m} l = sound-queued (m .config) (m .past .programmed) (allClosed (rowAt (m .past))) (m .queue) (m .control .action) (l .facts .action)
 
 pub going : {m : Machine} (l : Live m) → inService (m .control .action) ≡ true → Going (l .facts .accepted) (m .past) (m .queue) (m .control .action)
-going {m} l s =
-    record { service = s; sound = l .facts .action; placed = placed (m .config) (m .queue) (l .facts .queue) (m .control .action) (queued l) }
+going {m} l s = record { service = s; sound = l .facts .action }
 
 -- the wait of the action under way
 abbrev pub waiting : Machine → ℕ

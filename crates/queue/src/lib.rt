@@ -1,10 +1,10 @@
 // Owns the queue of accepted requests (document 01, "A service slot"): acceptance and removal; and the definitions of blocked requests and of the
 // oldest unblocked read and write, for which `search` looks.
 ghost use Rattle.queue.specs.Places.{noRequest, heldOf, emptyOf, acceptOf, removeOf, getOf, without};
-ghost use lib.ListN.{length, take};
+ghost use lib.ListN.{length};
 ghost use mathlib.Core.List.{[], _∷_, _++_};
 ghost use mathlib.Core.Path.{_≡_};
-ghost use Prim.Native.Nat.{_≤_, _<_};
+ghost use Prim.Native.Nat.{_<_};
 
 pub enum Kind {
     Read,

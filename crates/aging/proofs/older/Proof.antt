@@ -1,7 +1,7 @@
 -- The loop makes one age after the other older.
 use borrow.Author.Needs.{needs}
 use Prim.Native.Nat.{_≤_, _-_}
-use mathlib.Core.Path.{_≡_, refl, sym, ap, _∙_}
+use mathlib.Core.Path.{_≡_, refl, _∙_}
 use mathlib.Core.Bool.{false}
 use native.Mathlib.Numerals.{add-one}
 use native.Mathlib.Omega.{arith}
@@ -9,7 +9,7 @@ use lib.ListN.{length}
 use Rattle.aging.proofs.older.Statement.{statement}
 use Rattle.aging.proofs.older.Tie as tie
 use Rattle.ages.specs.Ages.{agedOf}
-use Rattle.aging.proofs.Loop.{changed, changed-next, changed-all, changed-length}
+use Rattle.aging.proofs.Loop.{changed, changed-next, changed-all}
 
 abbrev Inv-loop : tie.InvT-loop
 Inv-loop next₀ i₀ next i = (i ≤ 16) × (length next₀ ≡ 16) × (next ≡ changed (agedOf false) i next₀)

@@ -1,5 +1,5 @@
 -- What a slot does to the SDRAM: a legal READ and WRT go to the cell of the request that they are sent for, since its row is the open one.
-use Prim.Native.Nat.{ℕ, suc, _+_, _%_, _<_}
+use Prim.Native.Nat.{ℕ, suc, _+_, _<_}
 use mathlib.Core.Path.{_≡_, refl, ap}
 use mathlib.Core.Bool.{true, cond, _&&_, and-eq-true-iff}
 use mathlib.Core.List.{_∷_}

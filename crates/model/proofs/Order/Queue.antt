@@ -77,14 +77,10 @@ put-same f at v n e = rw (eq-eqb n at e)
 put-other : {A : Type 0} (f : ℕ → A) (at : ℕ) (v : A) (n : ℕ) → (n ≡ at → ⊥) → put eqb f at v n ≡ f n
 put-other f at v n e = rw (ne-eqb n at e)
 
--- the request that an accepted call queues
-abbrev pub requestAs : Geometry → ℕ → Kind → ℕ → ℕ → Request
-requestAs g n kind address halfword = requestFor kind n address halfword
-
 module _ {g : Geometry} {q : Queue} {a : Action} {n : ℕ} {d : Sdram} {f : Flat} {reported : List ℕ} (o : Ordered g q a n d f reported)
     (kind : Kind) (address halfword : ℕ) (room : q .count < 8) where
   abbrev new : Request
-  new = requestAs g (n + 1) kind address halfword
+  new = requestFor kind (n + 1) address halfword
 
   abbrev flat : Flat
   flat = taken f kind address halfword
@@ -141,7 +137,7 @@ module _ {g : Geometry} {q : Queue} {a : Action} {n : ℕ} {d : Sdram} {f : Flat
 
   -- An accepted request: the flat memory takes it at once, the queue keeps it.
   pub ordered-request : addressNumberOf g address ≡ 0
-      → Ordered g (acceptOf q (requestAs g (n + 1) kind address halfword)) a (n + 1) d (taken f kind address halfword) reported
+      → Ordered g (acceptOf q (requestFor kind (n + 1) address halfword)) a (n + 1) d (taken f kind address halfword) reported
   unfolding taken
   ordered-request valid =
       let ok = address-good g address valid in

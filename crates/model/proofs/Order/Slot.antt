@@ -15,7 +15,6 @@ use Rattle.config.specs.declared.Geometry.{Geometry}
 use Rattle.config.specs.Accepted.{Accepted}
 use Rattle.address.specs.declared.Row.{Row}
 use Rattle.address.specs.declared.Cell.{Cell}
-use Rattle.address.specs.Map.{cellOf}
 use Rattle.address.proofs.Laws.{cell-within}
 use Rattle.command.specs.declared.Command.{Command}
 use Rattle.command.specs.declared.Command.the-variants.{Nop, Act, Wrt, Pre, Deac, Refr, Mrs}

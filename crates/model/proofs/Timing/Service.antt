@@ -7,8 +7,6 @@ use native.Mathlib.Decide.{decLe, ℕ-discrete}
 use native.Mathlib.Omega.{arith}
 use Rattle.config.specs.declared.Config.{Config}
 use Rattle.config.specs.Accepted.{Accepted}
-use Rattle.address.specs.Map.{Holds}
-use Rattle.address.proofs.Laws.{cell-within}
 use Rattle.command.specs.declared.Command.the-variants.{Nop}
 use Rattle.device.specs.View.{refreshCycle, modeRegister, marksOf}
 use Rattle.device.proofs.Tests.{if-both}
@@ -19,12 +17,9 @@ use Rattle.queue.specs.declared.Kind.{Kind}
 use Rattle.queue.specs.declared.Queue.{Queue}
 use Rattle.queue.specs.declared.Request.{Request}
 use Rattle.queue.specs.declared.Found.the-variants.{At}
-use Rattle.queue.specs.Places.{cellHeld, heldOf, getOf, acceptOf}
-use Rattle.queue.proofs.Order.{Each}
+use Rattle.queue.specs.Places.{heldOf, getOf, acceptOf}
 use Rattle.queue.specs.Oldest.{oldestOf}
-use Rattle.queue.proofs.Each.{each-at}
-use Rattle.queue.proofs.Tidy.{Tidy, tidy-length, get-held, get-accept}
-use Rattle.queue.proofs.Oldest.{oldest-found}
+use Rattle.queue.proofs.Tidy.{Tidy, tidy-length, get-accept}
 use Rattle.refresh.specs.declared.Counters.{Counters}
 use Rattle.refresh.specs.declared.Level.{Level}
 use Rattle.refresh.specs.declared.Level.the-variants.{Clear, May, Release, Need, Must}
@@ -57,7 +52,7 @@ use Rattle.soundness.proofs.Plans.{Served, performedOf, servedOf, rest-only}
 use Rattle.model.specs.Sdram.{Sdram}
 use Rattle.model.specs.Flat.{Flat}
 use Rattle.model.specs.Condition.{isRefr}
-use Rattle.model.proofs.Invariant.{Good, Doing, leftOf, needOf, Settled, Owing, Timely}
+use Rattle.model.proofs.Invariant.{Doing, leftOf, needOf, Settled, Owing, Timely}
 use Rattle.model.proofs.Timing.Actions.{queueLeft, Backlog, stays, falls, Advanced, mode-sent, rested, act-advances, refresh-bound, access-bound}
 
 -- the request of an access is queued
