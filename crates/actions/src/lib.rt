@@ -99,7 +99,7 @@ fn is_queued(programmed: bool, i: usize, count: usize) -> bool
     false
 }
 
-// A read whose halfword comes in `left` slots, CL at most.
+// A read whose halfword comes in `left` slots, 1 to CL: as an access.
 fn is_awaited(programmed: bool, i: usize, count: usize, left: u8, latency: u8) -> bool
     ensures { λ r. ⌜ r ≡ (programmed && (ltb i count && counts left latency)) ⌝ }
 {
@@ -122,7 +122,7 @@ fn is_refreshing(p: Past, n: u8) -> bool
     false
 }
 
-// A refresh with its REFR to come: all banks are closed.
+// A refresh with its REFR to come: an MRS was sent, and all banks are closed.
 fn is_precharged(p: Past) -> bool
     ensures { λ r. ⌜ r ≡ (p .programmed && allClosed (rowAt p)) ⌝ }
 {
@@ -132,7 +132,7 @@ fn is_precharged(p: Past) -> bool
     false
 }
 
-// A refresh with its REFR sent: `left` of tRFC slots, the REFR's not among them.
+// A refresh with its REFR sent: an MRS was sent, and 1 to tRFC - 1 slots are left.
 fn is_cycling(programmed: bool, left: u8, rfc: u8) -> bool
     ensures { λ r. ⌜ r ≡ (programmed && (leb 1 left && ltb left rfc)) ⌝ }
 {

@@ -31,10 +31,12 @@ places =
     ∷ place 0x4612 4 0x1fffffe (cellAt 1 8191 1023)
     ∷ []
 
--- `refused`: 4 before 5; 1 and 2 before both. `outside`: the bank, the row, the column.
+-- `beyond`: an address with higher bits has the cell of its low ones. `refused`: 4 before 5; 1 and 2 before both. `outside`: the bank, the row, the
+-- column.
 record Examples : Type 0 where
   cells : map (λ p. toCellOf (p .cfg) (p .row) (p .address)) places ≡ map (λ p. record { number = 0; cell = p .cell }) places
   addresses : map (λ p. toAddressOf (p .cfg) (p .row) (p .cell)) places ≡ map (λ p. record { number = 0; address = p .address }) places
+  beyond : map (cellOf (geometryOf 0x4420 4)) (0x1000000 ∷ 0xffffffff ∷ []) ≡ cellAt 0 0 0 ∷ cellAt 3 8191 255 ∷ []
   refused :
       toCellOf 0x4420 4 0x1000000 ∷ toCellOf 0x4420 4 0x1000001 ∷ toCellOf 0x4428 4 0x1000001 ∷ toCellOf 0x0420 4 0x1000001 ∷ []
       ≡ map noCell (5 ∷ 4 ∷ 1 ∷ 2 ∷ [])
@@ -43,4 +45,4 @@ record Examples : Type 0 where
 
 examples : Examples
 unfolding reservedMap offeredOf geometryOf mapNumberOf capacityOf cellOf addressOf holdsOf addressNumberOf locatedOf addressedOf toCellOf toAddressOf
-examples = record { cells = refl; addresses = refl; refused = refl; outside = refl; blocks = refl }
+examples = record { cells = refl; addresses = refl; beyond = refl; refused = refl; outside = refl; blocks = refl }

@@ -34,7 +34,7 @@ pub record Holds (g : Geometry) (c : Cell) : Type 0 where
   pub column : c .column .0 < 2 ^ (g .columns)
 
 -- Address and cell determine each other: every even address below the capacity has one cell within the geometry, and every such cell one
--- such address.
+-- such address. No address at all has a cell outside.
 pub record Determined (g : Geometry) : Type 0 where
   pub within : (a : ℕ) → Holds g (cellOf g a)
   pub even : (c : Cell) → addressOf g c % 2 ≡ 0

@@ -64,7 +64,7 @@ pub fn address_number(g: Geometry, address: u32) -> u8
     0
 }
 
-// The cell of an address; of one beyond the device, which no request has, that of its low bits.
+// The cell of an address; of one beyond the device, which no accepted request has, that of its low bits.
 pub fn cell_of(g: Geometry, address: u32) -> Cell
     requires { ⌜ Shaped g ⌝ }
     ensures { λ r. ⌜ r ≡ cellOf g address ⌝ }

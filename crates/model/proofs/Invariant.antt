@@ -33,7 +33,7 @@ use Rattle.ages.proofs.Agree.{Agrees}
 use Rattle.queue.specs.declared.Kind.{Kind}
 use Rattle.queue.specs.declared.Queue.{Queue}
 use Rattle.queue.specs.declared.Request.{Request}
-use Rattle.queue.specs.Places.{cellHeld, heldOf, noRequest, getOf}
+use Rattle.queue.specs.Places.{cellFor, heldOf, noRequest, getOf}
 use Rattle.queue.proofs.Tidy.{Tidy}
 use Rattle.queue.proofs.Order.{Each, Servable, Rising}
 use Rattle.queue.proofs.Consistent.{Consistent}
@@ -162,7 +162,7 @@ leftOf c p q (InitRefresh n) = 0
 leftOf c p q InitMode = 0
 leftOf c p q InitSettle = 0
 leftOf c p q Idle = 0
-leftOf c p q (Access i) = let r : Request = getOf q i in accessLeft c p (r .kind) (cellHeld (c .geometry) r)
+leftOf c p q (Access i) = let r : Request = getOf q i in accessLeft c p (r .kind) (cellFor (c .geometry) r)
 leftOf c p q (CasLatency i left) = left + 1
 leftOf c p q Turnaround = 1
 leftOf c p q PrechargeAll = allHeld c p + c .rp + c .rfc

@@ -1,4 +1,4 @@
--- Soundness of a machine record, the test for number 9, on the record's parts: each has its owner. Of the queue only the number of requests matters:
+-- Soundness of a machine record, the test for number 9, on the record's parts, each but the queue's with its owner. Of the queue only the number of requests matters:
 -- whatever their addresses are, their cells lie in the geometry. docs/SOUNDNESS.md says it in words.
 use Prim.Native.Nat.{ℕ}
 use mathlib.Core.Bool.{Bool, true, cond, _&&_}
@@ -13,7 +13,7 @@ use Rattle.refresh.specs.Counting.{soundCounters}
 use Rattle.plan.specs.declared.Control.{Control}
 use Rattle.plan.specs.Actions.{soundAction}
 
--- what calls change: the counters, the number of queued requests, eight at most, and the action under way
+-- of all but the configuration: the counters, the number of queued requests, eight at most, and the action under way
 unfoldable pub stateBy : Config → Past → Counters → Control → ℕ → Bool
 stateBy c p n x count = soundCounters (c .rr) n && (leb count 8 && soundAction c (p .programmed) (allClosed (rowAt p)) count (x .action))
 

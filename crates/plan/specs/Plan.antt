@@ -13,7 +13,7 @@ use Rattle.device.specs.View.{View}
 use Rattle.queue.specs.declared.Kind.{Kind}
 use Rattle.queue.specs.declared.Queue.{Queue}
 use Rattle.queue.specs.declared.Request.{Request}
-use Rattle.queue.specs.Places.{cellHeld, removeOf}
+use Rattle.queue.specs.Places.{cellFor, removeOf}
 use Rattle.refresh.specs.declared.Counters.{Counters}
 use Rattle.refresh.specs.Counting.{refreshedOf}
 use Rattle.plan.specs.declared.Action.{Action}
@@ -124,7 +124,7 @@ planOf c v r (InitRefresh n) bus = tries Refr (InitRefresh n) (afterInitRefresh 
 planOf c v r InitMode bus = tries (Mrs (modeWord c)) InitMode InitSettle
 planOf c v r InitSettle bus = rest Idle
 planOf c v r Idle bus = rest Idle
-planOf c v r (Access i) bus = let x : Cell = cellHeld (c .geometry) r in accessPlan c (v .row (x .bank .0)) i r x
+planOf c v r (Access i) bus = let x : Cell = cellFor (c .geometry) r in accessPlan c (v .row (x .bank .0)) i r x
 planOf c v r (CasLatency i left) bus = latencyPlan i left r bus
 planOf c v r Turnaround bus = rest Idle
 planOf c v r PrechargeAll bus = tries Deac PrechargeAll Refresh

@@ -1,5 +1,5 @@
-// Owns the rules of a slot (document 01, "Start" and "A service slot"): the action under way, the plan of its next slot, and rules 1 to 6 of
-// the choice. It has no code; `actions`, `choice`, `service` and `turn` have it.
+// Owns the rules of a slot (document 01, "Start" and "A service slot"): the action under way and when it is sound, the plan of its next slot, rules 1
+// to 6 of the choice, and what a report says. It has no code; `actions`, `choice`, `service` and `turn` have it.
 
 // The action under way. The first five are the initialisation.
 pub enum Action {

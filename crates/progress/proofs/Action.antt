@@ -20,7 +20,7 @@ use Rattle.ages.specs.Ages.{ageOf, rowAt, sentOf}
 use Rattle.queue.specs.declared.Kind.{Kind}
 use Rattle.queue.specs.declared.Queue.{Queue}
 use Rattle.queue.specs.declared.Request.{Request}
-use Rattle.queue.specs.Places.{cellHeld, getOf}
+use Rattle.queue.specs.Places.{cellFor, getOf}
 use Rattle.plan.specs.declared.Action.{Action}
 use Rattle.plan.specs.declared.Action.the-variants.{
   PowerUp,
@@ -153,7 +153,7 @@ module _ {c : Config} (ok : Accepted c) (p : Past) (q : Queue) where
     held Idle g i bus = absurd (true≢false i)
     held (Access at) g i bus =
         let r = getOf q at in
-        let x = cellHeld (c .geometry) r in
+        let x = cellFor (c .geometry) r in
         let w = access-waits ok p x (bank-four ok (cell-within (c .geometry) (r .address))) (r .kind) in
         rw (access-off at r x (rowAt p (x .bank .0))) (record { by = omega (arith, gap-less, w) })
     held (CasLatency at left) g i bus =
@@ -193,7 +193,7 @@ module _ {c : Config} (ok : Accepted c) (p : Past) (q : Queue) where
   wait-most InitMode g = absurd (false≢true (g .service))
   wait-most InitSettle g = absurd (false≢true (g .service))
   wait-most Idle g = omega (arith, ok .access-span)
-  wait-most (Access i) g = omega (arith, gap-most ok p, access-most ok p (getOf q i .kind) (cellHeld (c .geometry) (getOf q i)))
+  wait-most (Access i) g = omega (arith, gap-most ok p, access-most ok p (getOf q i .kind) (cellFor (c .geometry) (getOf q i)))
   wait-most (CasLatency i left) g = omega (arith, g .sound .3, ok .access-span)
   wait-most Turnaround g = omega (arith, ok .access-span)
   wait-most PrechargeAll g = omega (arith, gap-most ok p, all-most ok p, ok .refresh-span)

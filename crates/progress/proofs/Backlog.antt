@@ -55,7 +55,7 @@ use Rattle.model.specs.World.{backlog}
 use Rattle.model.proofs.Invariant.{short, allHeld}
 use Rattle.model.proofs.Plans.{countersOf, chosenOf, actedOf, afterOf, step-is}
 use Rattle.progress.specs.Progress.{
-  refreshing,
+  refreshChosen,
   workedOffWithin,
   refreshedNext,
   worksOff,
@@ -314,7 +314,7 @@ module _ (c : Config) where
 -- from any record
 
 rule-due : (p : Past) (a : Action) (must closed : Bool) (l : Level) (b : ℕ) → Within l b → allClosed (rowAt p) ≡ closed
-    → refreshing (rulesOf (runOf must l) l Nothing Nothing closed) ≡ true → Due p a b
+    → refreshChosen (rulesOf (runOf must l) l Nothing Nothing closed) ≡ true → Due p a b
 unfolding rulesOf
 rule-due p a must closed Clear b w e h = absurd (false≢true h)
 rule-due p a must true May b w e h = all-closed e
@@ -325,11 +325,11 @@ rule-due p a must closed Must b w e h = enough (omega arith)
 
 resting-due : (m : Machine) → refreshedNext m ≡ true → Due (m .past) (m .control .action) (m .counters .backlog)
 resting-due m h =
-    by-test (refreshing (m .control .action))
+    by-test (refreshChosen (m .control .action))
     (λ e. under e)
     (λ e.
     let level = levelOf (m .counters .backlog) in
-    let chosen = refreshing (rulesOf (runOf (m .control .must) level) level Nothing Nothing (allClosed (rowAt (m .past)))) in
+    let chosen = refreshChosen (rulesOf (runOf (m .control .must) level) level Nothing Nothing (allClosed (rowAt (m .past)))) in
     rule-due (m .past) (m .control .action) (m .control .must) (allClosed (rowAt (m .past))) level (m .counters .backlog) (level-in (m .counters .backlog)) refl
     (sym (or-false chosen) ∙ rw e at h))
   where

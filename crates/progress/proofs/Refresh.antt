@@ -52,7 +52,7 @@ use Rattle.soundness.proofs.Plans.{Served, performedOf, servedOf, sending, perf
 use Rattle.model.proofs.Invariant.{short, allHeld}
 use Rattle.model.proofs.Timing.Distances.{all-falls, deac-ready, refr-ready}
 use Rattle.model.proofs.Timing.Actions.{waits}
-use Rattle.progress.specs.Progress.{refreshing}
+use Rattle.progress.specs.Progress.{refreshChosen}
 use Rattle.progress.proofs.Distances.{gap, gap-ready, legal-r2, all-most}
 use Rattle.progress.proofs.Start.{gap-nop, close-nop, gap-deac, close-deac, gap-refr}
 
@@ -75,7 +75,7 @@ owedLeft c p (RefreshCycle left) b = max left (gap c p) + b * c .refresh
 pub data Due (p : Past) (a : Action) (b : ℕ) : Type 0 where
   enough : 4 ≤ b → Due p a b
   all-closed : allClosed (rowAt p) ≡ true → Due p a b
-  under : refreshing a ≡ true → Due p a b
+  under : refreshChosen a ≡ true → Due p a b
 
 refreshed-backlog : (n : Counters) → refreshedOf n .backlog ≡ n .backlog - 1
 refreshed-backlog n = go (ℕ-discrete (n .backlog) 0)
@@ -91,7 +91,7 @@ module _ {c : Config} (ok : Accepted c) (p : Past) (n : Counters) where
     pub due : Due p a (n .backlog) → Due (s .past) (s .outcome .action) (countersAfter n (s .outcome .refreshes) .backlog)
 
   -- a NOP that goes on to an action without a command of its own
-  nop-due : {a next : Action} → refreshing a ≡ false → Due p a (n .backlog) → Due (sentOf p Nop) next (n .backlog)
+  nop-due : {a next : Action} → refreshChosen a ≡ false → Due p a (n .backlog) → Due (sentOf p Nop) next (n .backlog)
   nop-due e (enough h) = enough h
   nop-due e (all-closed h) = all-closed (nop-closed p ∙ h)
   nop-due e (under h) = absurd (true≢false (sym h ∙ e))

@@ -63,26 +63,26 @@ choiceWithin c = c .refresh + max (c .access) (c .refresh)
 unfoldable pub workedOffWithin : Config → ℕ
 workedOffWithin c = 20 * c .refresh
 
--- is it the choice of a refresh?
-abbrev pub refreshing : Action → Bool
-refreshing (PowerUp n) = false
-refreshing InitPrecharge = false
-refreshing (InitRefresh n) = false
-refreshing InitMode = false
-refreshing InitSettle = false
-refreshing Idle = false
-refreshing (Access i) = false
-refreshing (CasLatency i left) = false
-refreshing Turnaround = false
-refreshing PrechargeAll = true
-refreshing Refresh = false
-refreshing (RefreshCycle left) = false
+-- is a refresh chosen, and its DEAC still to come?
+abbrev pub refreshChosen : Action → Bool
+refreshChosen (PowerUp n) = false
+refreshChosen InitPrecharge = false
+refreshChosen (InitRefresh n) = false
+refreshChosen InitMode = false
+refreshChosen InitSettle = false
+refreshChosen Idle = false
+refreshChosen (Access i) = false
+refreshChosen (CasLatency i left) = false
+refreshChosen Turnaround = false
+refreshChosen PrechargeAll = true
+refreshChosen Refresh = false
+refreshChosen (RefreshCycle left) = false
 
--- with no request to choose, rule 1, 3 or 5 refreshes, as the record is; or such a refresh is just chosen
+-- with no request to choose, rule 1, 3 or 5 refreshes, as the record is; or a refresh is chosen already
 abbrev pub refreshedNext : Machine → Bool
 refreshedNext m =
     let level : Level = levelOf (m .counters .backlog) in
-    refreshing (rulesOf (runOf (m .control .must) level) level Nothing Nothing (allClosed (rowAt (m .past)))) || refreshing (m .control .action)
+    refreshChosen (rulesOf (runOf (m .control .must) level) level Nothing Nothing (allClosed (rowAt (m .past)))) || refreshChosen (m .control .action)
 
 -- is the backlog 0 now, or after one of the slots with these halfwords on the bus?
 abbrev pub worksOff : Machine → List ℕ → Bool

@@ -12,12 +12,13 @@ use Rattle.queue.specs.declared.Kind.the-variants.{Read}
 use Rattle.queue.specs.declared.Request.{Request}
 use Rattle.queue.specs.declared.Queue.{Queue}
 
+-- a request of a kind with its number, address and halfword
 abbrev pub requestFor : Kind → ℕ → ℕ → ℕ → Request
 requestFor kind number address halfword = record { number = number; address = address; halfword = halfword; kind = kind }
 
 -- the cell that a request is for
-abbrev pub cellHeld : Geometry → Request → Cell
-cellHeld g r = cellOf g (r .address)
+abbrev pub cellFor : Geometry → Request → Cell
+cellFor g r = cellOf g (r .address)
 
 -- what a place holds that no request uses
 abbrev pub noRequest : Request

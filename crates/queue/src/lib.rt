@@ -1,6 +1,9 @@
 // Owns the queue of accepted requests (document 01, "A service slot"): acceptance and removal; and the definitions of blocked requests and of the
 // oldest unblocked read and write, for which `search` looks.
-ghost use Rattle.queue.specs.Places.{noRequest, heldOf, emptyOf, acceptOf, removeOf, getOf, without};
+use address::Cell;
+use config::Geometry;
+ghost use Rattle.config.specs.Accepted.{Shaped};
+ghost use Rattle.queue.specs.Places.{cellFor, noRequest, heldOf, emptyOf, acceptOf, removeOf, getOf, without};
 ghost use lib.ListN.{length};
 ghost use mathlib.Core.List.{[], _∷_, _++_};
 ghost use mathlib.Core.Path.{_≡_};
@@ -11,7 +14,7 @@ pub enum Kind {
     Write,
 }
 
-// One accepted request: its number and its byte address, of which the cell is made when it is served (`cellHeld`). A read's halfword means nothing.
+// One accepted request: its number and its byte address, of which the cell is made when it is served (`cell`). A read's halfword means nothing.
 pub struct Request {
     pub number: u32,
     pub address: u32,
@@ -57,6 +60,16 @@ fn closed(places: [Request; 8], at: usize) -> [Request; 8]
     }
     moved[7] = blank();
     moved
+}
+
+impl Request {
+    // The cell that it is for.
+    pub fn cell(self, g: Geometry) -> Cell
+        requires { ⌜ Shaped g ⌝ }
+        ensures { λ r. ⌜ r ≡ cellFor g self ⌝ }
+    {
+        address::cell_of(g, self.address)
+    }
 }
 
 impl Queue {

@@ -190,14 +190,13 @@ impl Machine {
         let past = self.past;
         let counters = self.counters;
         let control = self.control;
-        let queue = self.queue;
         let number = numbers::request_number(
             self.configured,
             config,
             past,
             counters,
             control,
-            queue.count,
+            self.queue.count,
             self.accepted,
             address,
         );
@@ -212,14 +211,13 @@ impl Machine {
         let past = self.past;
         let counters = self.counters;
         let control = self.control;
-        let queue = self.queue;
         let number = numbers::request_number(
             self.configured,
             config,
             past,
             counters,
             control,
-            queue.count,
+            self.queue.count,
             self.accepted,
             address,
         );
@@ -295,14 +293,13 @@ impl Machine {
         let past = self.past;
         let counters = self.counters;
         let control = self.control;
-        let queue = self.queue;
         let number = numbers::record_number(
             self.configured,
             config,
             past,
             counters,
             control,
-            queue.count,
+            self.queue.count,
         );
         if number != 0 {
             return Reading { number, backlog: 0 };

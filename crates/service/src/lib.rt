@@ -16,7 +16,7 @@ ghost use Rattle.config.specs.Accepted.{Shaped};
 ghost use Rattle.ages.specs.Ages.{rowAt, byAges};
 ghost use Rattle.command.specs.declared.Command.the-variants.{Mrs};
 ghost use Rattle.plan.specs.declared.Action.the-variants.{InitMode, InitSettle};
-ghost use Rattle.queue.specs.Places.{cellHeld};
+ghost use Rattle.queue.specs.Places.{cellFor};
 ghost use Rattle.plan.specs.Plan.{
   tries,
   modeWord,
@@ -230,10 +230,10 @@ fn access_to(c: Config, p: Past, i: usize, r: Request, cell: Cell) -> Carried
 // The access of the request r at place i: to the cell of its address.
 fn access(c: Config, p: Past, i: usize, r: Request) -> Carried
     requires { ⌜ Shaped (c .geometry) ⌝ }
-    ensures { λ e. ⌜ e ≡ conductedOf c (byAges c p) (accessPlan c (rowAt p (cellHeld (c .geometry) r .bank .0)) i r (cellHeld (c .geometry) r)) ⌝ }
+    ensures { λ e. ⌜ e ≡ conductedOf c (byAges c p) (accessPlan c (rowAt p (cellFor (c .geometry) r .bank .0)) i r (cellFor (c .geometry) r)) ⌝ }
 {
     let geometry = c.geometry;
-    let cell = address::cell_of(geometry, r.address);
+    let cell = r.cell(geometry);
     access_to(c, p, i, r, cell)
 }
 

@@ -22,7 +22,7 @@ use Rattle.queue.specs.declared.Found.the-variants.{At, Nothing}
 use Rattle.queue.specs.declared.Kind.{Kind}
 use Rattle.queue.specs.declared.Queue.{Queue}
 use Rattle.queue.specs.declared.Request.{Request}
-use Rattle.queue.specs.Places.{cellHeld, heldOf, getOf, acceptOf}
+use Rattle.queue.specs.Places.{cellFor, heldOf, getOf, acceptOf}
 use Rattle.queue.specs.Oldest.{oldestOf}
 use Rattle.queue.proofs.Oldest.{oldest-found}
 use Rattle.refresh.specs.declared.Counters.{Counters}
@@ -192,7 +192,7 @@ module _ {c : Config} (ok : Accepted c) (p : Past) (q : Queue) where
   served InitSettle s bus = rests Idle (programmed-kept p Nop s) (λ e. refl)
   served Idle s bus = rests Idle (programmed-kept p Nop s) (λ e. refl)
   served (Access i) s bus =
-      let x = cellHeld (c .geometry) (getOf q i) in
+      let x = cellFor (c .geometry) (getOf q i) in
       accesses i (s .0) (s .1) (getOf q i) x (rowAt p (x .bank .0))
   served (CasLatency i left) s bus = awaits i left (getOf q i) bus s
   served Turnaround s bus = rests Idle (programmed-kept p Nop s) (λ e. refl)

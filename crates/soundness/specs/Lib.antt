@@ -1,1 +1,1 @@
--- Nothing to define: the laws are about the definitions of `numbers` and `plan`.
+-- Nothing to define: the laws are about the definitions of `numbers`, `plan`, `queue` and `ages`.

@@ -27,7 +27,7 @@ use Rattle.ages.proofs.Agree.{Agrees, same-verdict}
 use Rattle.queue.specs.declared.Kind.{Kind}
 use Rattle.queue.specs.declared.Queue.{Queue}
 use Rattle.queue.specs.declared.Request.{Request}
-use Rattle.queue.specs.Places.{cellHeld, heldOf, noRequest, getOf, removeOf, without}
+use Rattle.queue.specs.Places.{cellFor, heldOf, noRequest, getOf, removeOf, without}
 use Rattle.queue.proofs.Order.{Each, Servable}
 use Rattle.queue.proofs.Consistent.{applied, ReadsRight, Consistent}
 use Rattle.queue.proofs.Each.{each-without, each-at, each-map}
@@ -166,7 +166,7 @@ unfolding busOf
 bus-carries w any h e = rw e
 
 -- a bank of the geometry is one of the four
-bank-four : (c : Config) → Accepted c → (r : Request) → cellHeld (c .geometry) r .bank .0 < 4
+bank-four : (c : Config) → Accepted c → (r : Request) → cellFor (c .geometry) r .bank .0 < 4
 bank-four c u r = omega (arith, cell-within (c .geometry) (r .address) .bank, pow-mono (u .shaped .banks-most))
 
 -- a command that is legal by the ages is taken
@@ -279,16 +279,16 @@ module _ {c : Config} {p : Past} {q : Queue} {a : Action} {n : ℕ} {d : Sdram} 
       (λ h. rest-fine (CasLatency at (left - 1)) (waits left (leb-false left 1 h) k))
 
   -- an access whose row is open: its cell is the open one
-  here-open : (r : Request) {y : Row} → rowAt p (cellHeld (c .geometry) r .bank .0) ≡ some y → eqb (y .0) (cellHeld (c .geometry) r .row .0) ≡ true
-      → Open d (cellHeld (c .geometry) r)
-  here-open r opened row = open-cell v (cellHeld (c .geometry) r) (bank-four c ok r) opened row
+  here-open : (r : Request) {y : Row} → rowAt p (cellFor (c .geometry) r .bank .0) ≡ some y → eqb (y .0) (cellFor (c .geometry) r .row .0) ≡ true
+      → Open d (cellFor (c .geometry) r)
+  here-open r opened row = open-cell v (cellFor (c .geometry) r) (bank-four c ok r) opened row
 
   -- the request under way, and its cell
   abbrev r : Request
   r = getOf q at
 
   abbrev x : Cell
-  x = cellHeld (c .geometry) r
+  x = cellFor (c .geometry) r
 
   held : r ≡ getD (heldOf q) at noRequest
   held = get-held at (o .tidy)

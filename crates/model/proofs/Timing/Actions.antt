@@ -39,7 +39,7 @@ use Rattle.ages.proofs.Slot.{Aged, sent-age, sent-row, aged-sent}
 use Rattle.queue.specs.declared.Kind.{Kind}
 use Rattle.queue.specs.declared.Queue.{Queue}
 use Rattle.queue.specs.declared.Request.{Request}
-use Rattle.queue.specs.Places.{cellHeld, getOf}
+use Rattle.queue.specs.Places.{cellFor, getOf}
 use Rattle.refresh.specs.declared.Counters.{Counters}
 use Rattle.refresh.specs.Counting.{refreshedOf}
 use Rattle.plan.specs.declared.Action.{Action}
@@ -306,7 +306,7 @@ module _ {c : Config} (ok : Accepted c) (p : Past) (programmed : p .programmed �
 
     -- its cell, and that cell's bank
     abbrev x : Cell
-    x = cellHeld (c .geometry) r
+    x = cellFor (c .geometry) r
 
     abbrev b : ℕ
     b = x .bank .0
@@ -517,7 +517,7 @@ access-bound {c} ok {p} aged q i = go (rowAt p b)
     Bound n = n + 3 ≤ c .access
 
     x : Cell
-    x = cellHeld (c .geometry) (getOf q i)
+    x = cellFor (c .geometry) (getOf q i)
 
     b : ℕ
     b = x .bank .0

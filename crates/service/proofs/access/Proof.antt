@@ -2,17 +2,15 @@
 use borrow.Author.Needs.{needs}
 use Rattle.service.proofs.access.Statement.{statement}
 use Rattle.service.proofs.access.Tie as tie
-use Rattle.service.specs.Serve.{conductedOf}
 
-cell-of-requires : tie.Need-cell-of-requires
-cell-of-requires c κs = search needs
+cell-requires : tie.Need-cell-requires
+cell-requires c κs = search needs
 
 access-to-requires : tie.Need-access-to-requires
 access-to-requires c κs = search needs
 
 returns : tie.Need-returns
-unfolding conductedOf
-returns c = simp (← c .before .cell-of .ensures, ← c .access-to .ensures)
+returns c = simp (← c .before .cell .ensures, ← c .access-to .ensures)
 
 pub access-spec : {M : Type 1} → statement M
-access-spec = tie.close (tie.spec cell-of-requires access-to-requires returns)
+access-spec = tie.close (tie.spec cell-requires access-to-requires returns)
