@@ -1,13 +1,3 @@
--- The proof of the third condition: the invariant and its three parts, what every call does to each, and the theorem.
-pub mod Invariant
-pub mod Calls
-pub mod Plans
-pub mod Order
-pub mod Timing
-pub mod Start
-pub mod Refreshes
-pub mod Standing
-pub mod Requests
-pub mod Third
+-- Closed runs of the claim, computed.
 pub mod ClosedRun
 pub mod ClosedSdram

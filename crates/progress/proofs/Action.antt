@@ -41,9 +41,9 @@ use Rattle.plan.specs.Actions.{isIdle, inService, underWay}
 use Rattle.plan.specs.Plan.{Plan, quietly, tries, rest, transferPlan, readPlan, writePlan, accessPlan, latencyPlan, takenPlan, cycleLeft, refreshPlan, planOf, queueAfter}
 use Rattle.plan.proofs.Sound.{SoundAction}
 use Rattle.soundness.proofs.Plans.{Served, performedOf, servedOf, sending, performed-both, rest-only}
-use Rattle.model.proofs.Invariant.{leftOf, Settled}
-use Rattle.model.proofs.Timing.Distances.{short-falls, all-falls}
-use Rattle.model.proofs.Timing.Actions.{queueLeft, act-advances, bank-four}
+use Rattle.theorem.proofs.Invariant.{leftOf, Settled}
+use Rattle.theorem.proofs.Timing.Distances.{short-falls, all-falls}
+use Rattle.theorem.proofs.Timing.Actions.{queueLeft, act-advances, bank-four}
 use Rattle.progress.specs.Progress.{choiceWithin}
 use Rattle.progress.proofs.Distances.{gap, R2Kept, gap-falls, gap-ready, ready-gap, legal-r2, gap-most, short-most, all-most, access-most, access-waits}
 

@@ -52,8 +52,8 @@ use Rattle.sequencer.specs.Machine.{stepOf}
 use Rattle.sequencer.specs.Calls.{recordNumberOf, slotOf}
 use Rattle.sequencer.proofs.Sound.{step-serves}
 use Rattle.model.specs.World.{backlog}
-use Rattle.model.proofs.Invariant.{short, allHeld}
-use Rattle.model.proofs.Plans.{countersOf, chosenOf, actedOf, afterOf, step-is}
+use Rattle.theorem.proofs.Invariant.{short, allHeld}
+use Rattle.theorem.proofs.Plans.{countersOf, chosenOf, actedOf, afterOf, step-is}
 use Rattle.progress.specs.Progress.{
   refreshChosen,
   workedOffWithin,

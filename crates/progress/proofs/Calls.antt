@@ -29,7 +29,7 @@ use Rattle.sequencer.specs.Machine.{stepOf}
 use Rattle.sequencer.specs.Calls.{requestOf, slotOf}
 use Rattle.sequencer.proofs.Sound.{step-serves}
 use Rattle.model.specs.World.{Call, read, write, slot, backlog}
-use Rattle.model.proofs.Plans.{actedOf, afterOf, step-is}
+use Rattle.theorem.proofs.Plans.{actedOf, afterOf, step-is}
 use Rattle.progress.specs.Calls.{afterCalls, slotsIn, chooses}
 use Rattle.progress.proofs.Start.{startLeft, left-none, none-left, sooner}
 use Rattle.progress.proofs.Machine.{Live, slot-is, step-live, waiting, asked, goes-on, step-nearer}

@@ -34,7 +34,7 @@ use Rattle.device.proofs.Tests.{both, if-both}
 use Rattle.ages.specs.declared.Past.{Past}
 use Rattle.ages.specs.Ages.{ageOf, rowAt, byAges, sentOf}
 use Rattle.queue.specs.declared.Kind.{Kind}
-use Rattle.model.proofs.Invariant.{
+use Rattle.theorem.proofs.Invariant.{
   short,
   bankHeld,
   openHeld,
@@ -47,7 +47,7 @@ use Rattle.model.proofs.Invariant.{
   rowLeft,
   accessLeft,
 }
-use Rattle.model.proofs.Timing.Distances.{Falls, Ready, short-falls, nop-row, bank-falls, others-fall}
+use Rattle.theorem.proofs.Timing.Distances.{Falls, Ready, short-falls, nop-row, bank-falls, others-fall}
 
 -- what R2 still asks
 unfoldable pub gap : Config → Past → ℕ

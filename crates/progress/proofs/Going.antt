@@ -22,8 +22,8 @@ use Rattle.sequencer.specs.declared.Requested.{Requested}
 use Rattle.sequencer.specs.Machine.{blankOf, machineOf}
 use Rattle.sequencer.specs.Calls.{configuredBy, configureOf, recordNumberOf, requestOf, refusedWith, slotOf}
 use Rattle.sequencer.proofs.Sound.{step-serves, start-facts}
-use Rattle.model.proofs.Calls.{request-cases}
-use Rattle.model.proofs.Third.{configured-machine}
+use Rattle.theorem.proofs.Calls.{request-cases}
+use Rattle.theorem.proofs.Third.{configured-machine}
 use Rattle.progress.specs.Progress.{Keeps, KeptSound, Progress}
 use Rattle.progress.proofs.Action.{wait-most}
 use Rattle.progress.proofs.Start.{start-most}

@@ -33,9 +33,9 @@ use Rattle.sequencer.specs.Machine.{stepOf}
 use Rattle.sequencer.specs.Calls.{recordNumberOf, queuedRequest, enqueuedOf, requestOf, slotOf}
 use Rattle.sequencer.proofs.Laws.{SoundFacts, request-facts}
 use Rattle.sequencer.proofs.Sound.{record-facts, step-sound, queued-sound}
-use Rattle.model.proofs.Calls.{request-cases, slot-steps}
-use Rattle.model.proofs.Plans.{chosenOf, actedOf, afterOf, step-is}
-use Rattle.model.proofs.Timing.Service.{Queued, left-arrive}
+use Rattle.theorem.proofs.Calls.{request-cases, slot-steps}
+use Rattle.theorem.proofs.Plans.{chosenOf, actedOf, afterOf, step-is}
+use Rattle.theorem.proofs.Timing.Service.{Queued, left-arrive}
 use Rattle.progress.proofs.Action.{sends, waitOf, Going, nearer}
 use Rattle.progress.proofs.Distances.{gap}
 

@@ -49,9 +49,9 @@ use Rattle.plan.specs.Choice.{needs, idleRefresh, rulesOf, choiceOf}
 use Rattle.plan.proofs.Sound.{SoundAction}
 use Rattle.soundness.proofs.Past.{nop-closed, refr-closed, deac-closed}
 use Rattle.soundness.proofs.Plans.{Served, performedOf, servedOf, sending, performed-both, rest-only}
-use Rattle.model.proofs.Invariant.{short, allHeld}
-use Rattle.model.proofs.Timing.Distances.{all-falls, deac-ready, refr-ready}
-use Rattle.model.proofs.Timing.Actions.{waits}
+use Rattle.theorem.proofs.Invariant.{short, allHeld}
+use Rattle.theorem.proofs.Timing.Distances.{all-falls, deac-ready, refr-ready}
+use Rattle.theorem.proofs.Timing.Actions.{waits}
 use Rattle.progress.specs.Progress.{refreshChosen}
 use Rattle.progress.proofs.Distances.{gap, gap-ready, legal-r2, all-most}
 use Rattle.progress.proofs.Start.{gap-nop, close-nop, gap-deac, close-deac, gap-refr}

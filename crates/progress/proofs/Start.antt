@@ -34,10 +34,10 @@ use Rattle.plan.specs.Plan.{quietly, tries, rest, afterPause, afterInitRefresh,
 use Rattle.plan.proofs.Sound.{SoundAction}
 use Rattle.soundness.proofs.Plans.{Served, performedOf, servedOf, performed-both, rest-only}
 use Rattle.model.specs.Condition.{firstService}
-use Rattle.model.proofs.Invariant.{short, allHeld}
-use Rattle.model.proofs.Timing.Distances.{short-falls, short-new, all-falls, deac-ready, refr-ready}
-use Rattle.model.proofs.Timing.Actions.{waits}
-use Rattle.model.proofs.Start.{mrs-refr, one-less}
+use Rattle.theorem.proofs.Invariant.{short, allHeld}
+use Rattle.theorem.proofs.Timing.Distances.{short-falls, short-new, all-falls, deac-ready, refr-ready}
+use Rattle.theorem.proofs.Timing.Actions.{waits}
+use Rattle.theorem.proofs.Start.{mrs-refr, one-less}
 use Rattle.progress.specs.Progress.{startWithin}
 use Rattle.progress.proofs.Distances.{gap, gap-falls, gap-ready, legal-r2, gap-most, short-most, all-most}
 

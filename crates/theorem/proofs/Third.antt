@@ -51,19 +51,19 @@ use Rattle.sequencer.specs.declared.Slot.{Slot}
 use Rattle.sequencer.specs.declared.Configured.{Configured}
 use Rattle.sequencer.specs.Calls.{configuredBy, configureOf}
 use Rattle.sequencer.specs.Machine.{blankOf, machineOf}
 use Rattle.model.specs.Sdram.{Cells, takes, startSdram, sdramAfter}
 use Rattle.model.specs.World.{World, Call, read, write, slot, backlog, startWorld, busOf, slotIn, afterSlot, after}
 use Rattle.model.specs.Condition.{isRefr, firstService, servedBy, serviceRefreshes, expiries, refreshes, Carried, Right, Promised, ThirdCondition}
-use Rattle.model.proofs.Invariant.{Settled}
-use Rattle.model.proofs.Calls.{slot-steps}
-use Rattle.model.proofs.Plans.{countersOf, chosenOf, actedOf, afterOf, step-is}
-use Rattle.model.proofs.Order.Queue.{ordered-start, ordered-current}
-use Rattle.model.proofs.Order.Slot.{Acted, bus-carries, ordered-act}
-use Rattle.model.proofs.Refreshes.{refreshes-before, refreshes-after}
-use Rattle.model.proofs.Standing.{Before, During, Phase, Whole, sound, standing, exact, none-served}
-use Rattle.model.proofs.Requests.{answered, request-whole}
-use Rattle.model.proofs.Start.{Starting, starting-first, starting-slot, starting-below, starting-done, starting-keeps, starting-busy, done-set}
-use Rattle.model.proofs.Timing.Service.{Ends, timely-slot, timely-first}
+use Rattle.theorem.proofs.Invariant.{Settled}
+use Rattle.theorem.proofs.Calls.{slot-steps}
+use Rattle.theorem.proofs.Plans.{countersOf, chosenOf, actedOf, afterOf, step-is}
+use Rattle.theorem.proofs.Order.Queue.{ordered-start, ordered-current}
+use Rattle.theorem.proofs.Order.Slot.{Acted, bus-carries, ordered-act}
+use Rattle.theorem.proofs.Refreshes.{refreshes-before, refreshes-after}
+use Rattle.theorem.proofs.Standing.{Before, During, Phase, Whole, sound, standing, exact, none-served}
+use Rattle.theorem.proofs.Requests.{answered, request-whole}
+use Rattle.theorem.proofs.Start.{Starting, starting-first, starting-slot, starting-below, starting-done, starting-keeps, starting-busy, done-set}
+use Rattle.theorem.proofs.Timing.Service.{Ends, timely-slot, timely-first}
 
 -- the queue is the same at a choice
 current-queue : (x : Control) (n : ℕ) (q : Queue) (closed : Bool) → currentOf x n q closed .queue ≡ q

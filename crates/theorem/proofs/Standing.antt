@@ -39,14 +39,14 @@ use Rattle.plan.proofs.Sound.{SoundAction}
 use Rattle.numbers.specs.Numbers.{recordNumberBy}
 use Rattle.sequencer.specs.Calls.{recordNumberOf, backlogOf}
 use Rattle.sequencer.proofs.Laws.{SoundFacts, facts-sound}
 use Rattle.model.specs.Sdram.{Sdram}
 use Rattle.model.specs.Flat.{Flat}
 use Rattle.model.specs.World.{World}
 use Rattle.model.specs.Condition.{firstService, servedBy, expiries, refreshes, Standing, Exact}
-use Rattle.model.proofs.Invariant.{Kept, Doing, Ordered, Settled, Timely}
-use Rattle.model.proofs.Order.Queue.{ordered-agree}
-use Rattle.model.proofs.Calls.{backlog-reads}
-use Rattle.model.proofs.Start.{Starting, starting-below}
+use Rattle.theorem.proofs.Invariant.{Kept, Doing, Ordered, Settled, Timely}
+use Rattle.theorem.proofs.Order.Queue.{ordered-agree}
+use Rattle.theorem.proofs.Calls.{backlog-reads}
+use Rattle.theorem.proofs.Start.{Starting, starting-below}
 
 -- before the first service slot the counters stand still, and no service REFR is in the history
 pub record Before (c : Config) (w : World) : Type 0 where

@@ -49,11 +49,11 @@ use Rattle.plan.specs.Choice.{Choice, needs, idleRefresh, rulesOf, choiceOf, cu
 use Rattle.soundness.proofs.Past.{programmed-kept}
 use Rattle.soundness.proofs.Slot.{found-both}
 use Rattle.soundness.proofs.Plans.{Served, performedOf, servedOf, rest-only}
 use Rattle.model.specs.Sdram.{Sdram}
 use Rattle.model.specs.Flat.{Flat}
 use Rattle.model.specs.Condition.{isRefr}
-use Rattle.model.proofs.Invariant.{Doing, leftOf, needOf, Settled, Owing, Timely}
-use Rattle.model.proofs.Timing.Actions.{queueLeft, Backlog, stays, falls, Advanced, mode-sent, rested, act-advances, refresh-bound, access-bound}
+use Rattle.theorem.proofs.Invariant.{Doing, leftOf, needOf, Settled, Owing, Timely}
+use Rattle.theorem.proofs.Timing.Actions.{queueLeft, Backlog, stays, falls, Advanced, mode-sent, rested, act-advances, refresh-bound, access-bound}
 
 -- the request of an access is queued
 abbrev pub Queued : Queue → Action → Type 0

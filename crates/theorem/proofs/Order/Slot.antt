@@ -70,13 +70,13 @@ use Rattle.plan.specs.Plan.{
   queueAfter,
 }
 use Rattle.soundness.proofs.Plans.{Served, performedOf, servedOf, sending, performed-both, rest-only}
 use Rattle.model.specs.Sdram.{Sdram, drivenIn, openCell, takes, sdramAfter}
 use Rattle.model.specs.Flat.{Flat}
 use Rattle.model.specs.World.{World, busOf, reportedAfter}
 use Rattle.model.specs.Condition.{Named, Reports}
-use Rattle.model.proofs.Invariant.{Ok, Good, seen, Coming, Doing, Ordered}
-use Rattle.model.proofs.Order.Queue.{each-both, ordered-kept}
-use Rattle.model.proofs.Order.Cells.{
+use Rattle.theorem.proofs.Invariant.{Ok, Good, seen, Coming, Doing, Ordered}
+use Rattle.theorem.proofs.Order.Queue.{each-both, ordered-kept}
+use Rattle.theorem.proofs.Order.Cells.{
   Unwritten,
   cells-unwritten,
   driven-nop,

@@ -38,8 +38,8 @@ use Rattle.plan.specs.Actions.{isIdle, inService, firstAction}
 use Rattle.plan.specs.Plan.{quietly, tries, rest, afterPause, afterInitRefresh, modeWord, planOf}
 use Rattle.soundness.proofs.Past.{nop-closed, refr-closed, deac-closed}
 use Rattle.soundness.proofs.Plans.{Served, performedOf, servedOf, performed-both, rest-only}
 use Rattle.model.specs.Condition.{firstService}
-use Rattle.model.proofs.Timing.Distances.{R14-closed}
+use Rattle.theorem.proofs.Timing.Distances.{R14-closed}
 
 -- the slot of the MRS
 abbrev modeSlot : Config → ℕ

@@ -47,9 +47,9 @@ use Rattle.plan.specs.declared.Action.the-variants.{
 use Rattle.plan.specs.declared.Control.{Control}
 use Rattle.plan.specs.Actions.{isIdle}
 use Rattle.plan.specs.Choice.{Choice, accessOr, needs, idleRefresh, rulesOf, choiceOf, currentOf}
 use Rattle.model.specs.Sdram.{Cells, Sdram, startSdram}
 use Rattle.model.specs.Flat.{Flat, startFlat, taken}
-use Rattle.model.proofs.Invariant.{Ok, seen, Coming, Doing, Ordered}
+use Rattle.theorem.proofs.Invariant.{Ok, seen, Coming, Doing, Ordered}
 
 -- At the start nothing is queued, and the flat memory is what the cells hold.
 pub ordered-start : (g : Geometry) (first : Cells) (n : ℕ) → Ordered g emptyOf (PowerUp n) 0 (startSdram first) (startFlat g first) []

@@ -18,14 +18,14 @@ use Rattle.plan.specs.Actions.{inService}
 use Rattle.numbers.specs.Numbers.{lastNumber, roomNumberOf, requestNumberBy}
 use Rattle.sequencer.specs.Calls.{requestNumberOf, queuedRequest, enqueuedOf, requestOf}
 use Rattle.sequencer.proofs.Laws.{RequestFacts, request-facts}
 use Rattle.model.specs.Flat.{taken, flatAfter}
 use Rattle.model.specs.World.{World, afterRequest}
 use Rattle.model.specs.Condition.{askedNumber, Answered}
-use Rattle.model.proofs.Calls.{request-cases}
-use Rattle.model.proofs.Standing.{Phase, Whole, sound}
-use Rattle.model.proofs.Invariant.{Ordered}
-use Rattle.model.proofs.Order.Queue.{ordered-request}
-use Rattle.model.proofs.Timing.Service.{timely-arrive, queued-doing}
+use Rattle.theorem.proofs.Calls.{request-cases}
+use Rattle.theorem.proofs.Standing.{Phase, Whole, sound}
+use Rattle.theorem.proofs.Invariant.{Ordered}
+use Rattle.theorem.proofs.Order.Queue.{ordered-request}
+use Rattle.theorem.proofs.Timing.Service.{timely-arrive, queued-doing}
 
 -- the address's number and the room's, as one sees them from outside
 outside : (g : Geometry) (a room : ℕ)

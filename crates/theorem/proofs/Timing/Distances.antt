@@ -35,7 +35,7 @@ use Rattle.device.proofs.Alike.{Known}
 use Rattle.ages.specs.declared.Past.{Past}
 use Rattle.ages.specs.Ages.{cap, ageOf, rowAt, byAges, sentOf}
 use Rattle.ages.proofs.Slot.{Aged, sent-age, sent-row, reached, some-slots}
-use Rattle.model.proofs.Invariant.{short, bankHeld, openHeld, allHeld, otherHeld, othersHeld}
+use Rattle.theorem.proofs.Invariant.{short, bankHeld, openHeld, allHeld, otherHeld, othersHeld}
 
 -- less by one, down to nothing
 pub record Falls (after before : ℕ) : Type 0 where

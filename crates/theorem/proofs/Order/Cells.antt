@@ -22,8 +22,8 @@ use Rattle.device.proofs.Tests.{by-test, cond-same}
 use Rattle.ages.specs.declared.Past.{Past}
 use Rattle.ages.specs.Ages.{rowAt}
 use Rattle.ages.proofs.Agree.{Agrees}
 use Rattle.model.specs.Sdram.{Cells, Sdram, sameCell, stored, openCell, cellsAfter, drivenAfter, takes, sdramAfter}
-use Rattle.model.proofs.Invariant.{Ok, seen}
+use Rattle.theorem.proofs.Invariant.{Ok, seen}
 
 -- commands that are no WRT change no cell, taken or not
 abbrev pub Unwritten : Command → Type 0

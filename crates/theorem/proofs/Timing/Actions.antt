@@ -77,8 +77,8 @@ use Rattle.plan.specs.Plan.{
 }
 use Rattle.soundness.proofs.Past.{programmed-kept, nop-closed, deac-closed}
 use Rattle.soundness.proofs.Plans.{Served, performedOf, servedOf, sending, performed-both, rest-only}
 use Rattle.model.specs.Condition.{isRefr}
-use Rattle.model.proofs.Invariant.{
+use Rattle.theorem.proofs.Invariant.{
   short,
   bankHeld,
   allHeld,
@@ -94,7 +94,7 @@ use Rattle.model.proofs.Invariant.{
   Settled,
   Owing,
 }
-use Rattle.model.proofs.Timing.Distances.{
+use Rattle.theorem.proofs.Timing.Distances.{
   Ready,
   short-falls,
   short-new,

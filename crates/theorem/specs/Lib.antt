@@ -1,0 +1,1 @@
+-- Nothing to define: the statement is in `model`.
