@@ -27,7 +27,7 @@ pub fn state_sound(
         return false;
     }
     let action = control.action;
-    actions::action_sound(config, past, count, action)
+    action_test::action_sound(config, past, count, action)
 }
 
 // What every call tests first: 9 for an unsound record (docs/SOUNDNESS.md), then 8. `Machine::slot` makes these tests itself.

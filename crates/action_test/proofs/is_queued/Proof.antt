@@ -1,7 +1,7 @@
 -- The test settles the first part of the conjunction.
 use borrow.Author.Needs.{needs}
-use Rattle.actions.proofs.is_queued.Statement.{statement}
-use Rattle.actions.proofs.is_queued.Tie as tie
+use Rattle.action_test.proofs.is_queued.Statement.{statement}
+use Rattle.action_test.proofs.is_queued.Tie as tie
 
 returns : tie.Need-returns
 returns c = simp (c .if1 .taken)

@@ -1,7 +1,7 @@
 -- Action by action.
 use borrow.Author.Needs.{needs}
-use Rattle.actions.proofs.action_sound.Statement.{statement}
-use Rattle.actions.proofs.action_sound.Tie as tie
+use Rattle.action_test.proofs.action_sound.Statement.{statement}
+use Rattle.action_test.proofs.action_sound.Tie as tie
 use Rattle.plan.specs.Actions.{soundAction}
 
 enum-known-action : tie.Need-enum-known-action

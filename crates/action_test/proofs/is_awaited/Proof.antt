@@ -1,7 +1,7 @@
 -- Each test settles one part of the conjunction.
 use borrow.Author.Needs.{needs}
-use Rattle.actions.proofs.is_awaited.Statement.{statement}
-use Rattle.actions.proofs.is_awaited.Tie as tie
+use Rattle.action_test.proofs.is_awaited.Statement.{statement}
+use Rattle.action_test.proofs.is_awaited.Tie as tie
 use borrow.Author.Tests.{le-ltb, lt-ltb, not-true, not-false}
 
 returns : tie.Need-returns

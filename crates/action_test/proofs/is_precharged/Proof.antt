@@ -1,7 +1,7 @@
 -- The test settles the first part of the conjunction.
 use borrow.Author.Needs.{needs}
-use Rattle.actions.proofs.is_precharged.Statement.{statement}
-use Rattle.actions.proofs.is_precharged.Tie as tie
+use Rattle.action_test.proofs.is_precharged.Statement.{statement}
+use Rattle.action_test.proofs.is_precharged.Tie as tie
 
 all-closed-requires : tie.Need-all-closed-requires
 all-closed-requires c κs = search needs

@@ -1,6 +1,6 @@
 -- Each test settles one part of the conjunction.
-use Rattle.actions.proofs.is_counting.Statement.{statement}
-use Rattle.actions.proofs.is_counting.Tie as tie
+use Rattle.action_test.proofs.is_counting.Statement.{statement}
+use Rattle.action_test.proofs.is_counting.Tie as tie
 use borrow.Author.Tests.{le-leb, lt-leb}
 
 returns : tie.Need-returns

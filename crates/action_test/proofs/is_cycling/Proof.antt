@@ -1,6 +1,6 @@
 -- Each test settles one part of the conjunction.
-use Rattle.actions.proofs.is_cycling.Statement.{statement}
-use Rattle.actions.proofs.is_cycling.Tie as tie
+use Rattle.action_test.proofs.is_cycling.Statement.{statement}
+use Rattle.action_test.proofs.is_cycling.Tie as tie
 use borrow.Author.Tests.{le-leb, lt-leb, not-true, not-false}
 
 returns : tie.Need-returns
