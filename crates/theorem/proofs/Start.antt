@@ -11,10 +11,10 @@ use Rattle.config.specs.declared.Config.{Config}
 use Rattle.config.specs.Accepted.{Accepted}
 use Rattle.command.specs.declared.Command.{Command}
 use Rattle.command.specs.declared.Command.the-variants.{Nop, Deac, Refr, Mrs}
-use Rattle.device.specs.View.{Distance, refreshCycle, modeRegister, anyPrecharge, starts, allClosed, marksOf, rowOf}
+use Rattle.device.specs.View.{refreshCycle, modeRegister, anyPrecharge, allClosed, marksOf, rowOf}
 use Rattle.device.specs.Rules.{allHold, R12-open, R13-open, R14, R15, requirements, legalOf}
 use Rattle.device.proofs.Tests.{by-test, if-both, both}
-use Rattle.device.proofs.Alike.{Known, hold-append}
+use Rattle.device.proofs.Alike.{hold-append}
 use Rattle.ages.specs.declared.Past.{Past}
 use Rattle.ages.specs.Ages.{cap, freshOf, ageOf, openedOf, rowIn, rowAt, byAges, agedOf, agesAfter, sentOf}
 use Rattle.ages.proofs.Slot.{sent-age}
@@ -39,6 +39,7 @@ use Rattle.plan.specs.Plan.{quietly, tries, rest, afterPause, afterInitRefresh,
 use Rattle.soundness.proofs.Past.{nop-closed, refr-closed, deac-closed}
 use Rattle.soundness.proofs.Plans.{Served, performedOf, servedOf, performed-both, rest-only}
 use Rattle.model.specs.Condition.{firstService}
+use Rattle.theorem.proofs.Timing.Actions.{older-sent}
 use Rattle.theorem.proofs.Timing.Distances.{R14-closed}
 
 -- the slot of the MRS
@@ -94,17 +95,13 @@ fresh-deac : (c : Config) → c .rfc ≤ cap → legalOf c (byAges c freshOf) De
 unfolding legalOf requirements R12-open R13-open freshOf rowAt rowIn openedOf
 fresh-deac c h = simp (le-leb (c .rfc) cap h)
 
--- an age after a command that does not start it
-older : (p : Past) (k : Command) (d : Distance) → Known d → starts d k ≡ false → ageOf (sentOf p k) d ≡ min cap (suc (ageOf p d))
-older p k d h f = rw (sent-age p k d h, f)
-
 module _ (p : Past) where
   -- the ages after a NOP, a REFR and an MRS
   nop-ages : (ageOf (sentOf p Nop) refreshCycle ≡ min cap (suc (ageOf p refreshCycle)))
       × (ageOf (sentOf p Nop) anyPrecharge ≡ min cap (suc (ageOf p anyPrecharge)))
       × (ageOf (sentOf p Nop) modeRegister ≡ min cap (suc (ageOf p modeRegister)))
   unfolding marksOf
-  nop-ages = (older p Nop refreshCycle tt refl, older p Nop anyPrecharge tt refl, older p Nop modeRegister tt refl)
+  nop-ages = (older-sent p Nop refreshCycle tt refl, older-sent p Nop anyPrecharge tt refl, older-sent p Nop modeRegister tt refl)
 
   nop-programmed : sentOf p Nop .programmed ≡ p .programmed
   unfolding sentOf marksOf
@@ -114,13 +111,13 @@ module _ (p : Past) where
       × (ageOf (sentOf p Refr) anyPrecharge ≡ min cap (suc (ageOf p anyPrecharge)))
       × (ageOf (sentOf p Refr) modeRegister ≡ min cap (suc (ageOf p modeRegister)))
   unfolding marksOf
-  refr-ages = (sent-age p Refr refreshCycle tt, older p Refr anyPrecharge tt refl, older p Refr modeRegister tt refl)
+  refr-ages = (sent-age p Refr refreshCycle tt, older-sent p Refr anyPrecharge tt refl, older-sent p Refr modeRegister tt refl)
 
   mrs-ages : (w : ℕ) → (ageOf (sentOf p (Mrs w)) refreshCycle ≡ min cap (suc (ageOf p refreshCycle)))
       × (ageOf (sentOf p (Mrs w)) modeRegister ≡ 1)
       × (sentOf p (Mrs w) .programmed ≡ true)
   unfolding sentOf marksOf
-  mrs-ages w = (older p (Mrs w) refreshCycle tt refl, sent-age p (Mrs w) modeRegister tt, refl)
+  mrs-ages w = (older-sent p (Mrs w) refreshCycle tt refl, sent-age p (Mrs w) modeRegister tt, refl)
 
 -- an MRS's rules are R1 and a REFR's
 pub mrs-refr : (c : Config) (p : Past) → legalOf c (byAges c p) (Mrs (modeWord c)) ≡ legalOf c (byAges c p) Refr

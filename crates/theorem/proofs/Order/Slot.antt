@@ -9,7 +9,6 @@ use native.Mathlib.Omega.{arith}
 use borrow.Author.Tests.{leb-true, leb-false, eq-eqb, lt-ltb}
 use lib.Dec.{eqb, leb}
 use lib.ListN.{length, getD}
-use lib.Pow.{pow-mono}
 use Rattle.config.specs.declared.Config.{Config}
 use Rattle.config.specs.declared.Geometry.{Geometry}
 use Rattle.config.specs.Accepted.{Accepted}
@@ -74,6 +73,7 @@ use Rattle.model.specs.Sdram.{Sdram, drivenIn, openCell, takes, sdramAfter}
 use Rattle.model.specs.Flat.{Flat}
 use Rattle.model.specs.World.{World, busOf, reportedAfter}
 use Rattle.model.specs.Condition.{Named, Reports}
+use Rattle.theorem.proofs.Timing.Actions.{bank-four}
 use Rattle.theorem.proofs.Invariant.{Ok, Good, seen, Coming, Doing, Ordered}
 use Rattle.theorem.proofs.Order.Queue.{each-both, ordered-kept}
 use Rattle.theorem.proofs.Order.Cells.{
@@ -164,10 +164,6 @@ Carries d bus = (h : ℕ) → drivenIn (d .log .now) (d .driven) ≡ some h → 
 pub bus-carries : (w : World) (any : ℕ) → Carries (w .sdram) (busOf w any)
 unfolding busOf
 bus-carries w any h e = rw e
-
--- a bank of the geometry is one of the four
-bank-four : (c : Config) → Accepted c → (r : Request) → cellFor (c .geometry) r .bank .0 < 4
-bank-four c u r = omega (arith, cell-within (c .geometry) (r .address) .bank, pow-mono (u .shaped .banks-most))
 
 -- a command that is legal by the ages is taken
 pub takes-legal : {c : Config} {p : Past} (d : Sdram) → Accepted c → Agrees p (d .log) → (k : Command) → legalOf c (byAges c p) k ≡ true → takes c d k ≡ true
@@ -281,7 +277,7 @@ module _ {c : Config} {p : Past} {q : Queue} {a : Action} {n : ℕ} {d : Sdram} 
   -- an access whose row is open: its cell is the open one
   here-open : (r : Request) {y : Row} → rowAt p (cellFor (c .geometry) r .bank .0) ≡ some y → eqb (y .0) (cellFor (c .geometry) r .row .0) ≡ true
       → Open d (cellFor (c .geometry) r)
-  here-open r opened row = open-cell v (cellFor (c .geometry) r) (bank-four c ok r) opened row
+  here-open r opened row = open-cell v (cellFor (c .geometry) r) (bank-four ok (cell-within (c .geometry) (r .address))) opened row
 
   -- the request under way, and its cell
   abbrev r : Request

@@ -149,7 +149,7 @@ waits (suc x) f e = omega arith
 
 -- What a slot leaves of the past, whatever its command, but for MRS and REFR.
 
-older-sent : (p : Past) (k : Command) (d : Distance) → Known d → starts d k ≡ false → ageOf (sentOf p k) d ≡ min cap (suc (ageOf p d))
+pub older-sent : (p : Past) (k : Command) (d : Distance) → Known d → starts d k ≡ false → ageOf (sentOf p k) d ≡ min cap (suc (ageOf p d))
 older-sent p k d h f = rw (sent-age p k d h, f)
 
 pub mode-sent : (p : Past) (k : Command) → starts modeRegister k ≡ false → 2 ≤ ageOf p modeRegister → 2 ≤ ageOf (sentOf p k) modeRegister
