@@ -3,6 +3,7 @@
 use config::Config;
 use plan::Action;
 ghost use mathlib.Core.Path.{_≡_};
+ghost use Prim.Native.Nat.{_≤_};
 ghost use Rattle.plan.specs.Actions.{isIdle, inService, underWay, firstAction};
 
 // Is the next slot a service slot? The refresh counters stand still before the first one.
@@ -46,7 +47,7 @@ pub fn is_idle(action: Action) -> bool
 }
 
 // The place of the request under way, 0 where there is none.
-pub fn place(action: Action) -> usize
+pub fn place(action: Action) -> u16
     ensures { λ r. ⌜ r ≡ underWay action ⌝ }
 {
     match action {
@@ -67,7 +68,8 @@ pub fn place(action: Action) -> usize
 
 // As a configuration leaves it: a pause of 8 x RR slots.
 pub fn first_action(c: Config) -> Action
+    requires { ⌜ c .rr ≤ 8191 ⌝ }
     ensures { λ r. ⌜ r ≡ firstAction c ⌝ }
 {
-    Action::PowerUp(8 * (c.rr as u32))
+    Action::PowerUp(8 * c.rr)
 }

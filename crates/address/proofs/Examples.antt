@@ -1,48 +1,14 @@
--- Document 01's E12 both ways, a geometry whose widths all differ, what lies outside it, and blocks, computed.
-use Prim.Native.Nat.{ℕ}
+-- An address beyond the device, and blocks, computed.
 use mathlib.Core.Path.{_≡_, refl}
-use mathlib.Core.List.{List, [], _∷_, map}
-use Rattle.words.specs.Words.{reservedMap}
-use Rattle.config.specs.Setting.{offeredOf, geometryOf, mapNumberOf}
-use Rattle.address.specs.declared.Cell.{Cell}
-use Rattle.address.specs.Map.{cellAt, capacityOf, cellOf, addressOf, holdsOf, addressNumberOf, blockOf}
-use Rattle.address.specs.Standalone.{noCell, noAddress, locatedOf, addressedOf, toCellOf, toAddressOf}
+use mathlib.Core.List.{[], _∷_, map}
+use Rattle.config.specs.Setting.{geometryOf}
+use Rattle.address.specs.Map.{cellAt, cellOf, blockOf}
 
--- an address and its cell, under a CFG and a ROW word
-record Place : Type 0 where
-  cfg : ℕ
-  row : ℕ
-  address : ℕ
-  cell : Cell
-
-abbrev place : ℕ → ℕ → ℕ → Cell → Place
-place cfg row a c = record { cfg = cfg; row = row; address = a; cell = c }
-
--- E12's; then 10 column bits, 1 bank bit and 13 row bits
-abbrev places : List Place
-places =
-    place 0x4420 4 0x200 (cellAt 1 0 0)
-    ∷ place 0x4420 4 0x7fe (cellAt 3 0 255)
-    ∷ place 0x4420 4 0x800 (cellAt 0 1 0)
-    ∷ place 0x4420 4 0xfffffe (cellAt 3 8191 255)
-    ∷ place 0x4612 4 0x7fe (cellAt 0 0 1023)
-    ∷ place 0x4612 4 0x800 (cellAt 1 0 0)
-    ∷ place 0x4612 4 0x1000 (cellAt 0 1 0)
-    ∷ place 0x4612 4 0x1fffffe (cellAt 1 8191 1023)
-    ∷ []
-
--- `beyond`: an address with higher bits has the cell of its low ones. `refused`: 4 before 5; 1 and 2 before both. `outside`: the bank, the row, the
--- column.
+-- `beyond`: an address with higher bits has the cell of its low ones
 record Examples : Type 0 where
-  cells : map (λ p. toCellOf (p .cfg) (p .row) (p .address)) places ≡ map (λ p. record { number = 0; cell = p .cell }) places
-  addresses : map (λ p. toAddressOf (p .cfg) (p .row) (p .cell)) places ≡ map (λ p. record { number = 0; address = p .address }) places
   beyond : map (cellOf (geometryOf 0x4420 4)) (0x1000000 ∷ 0xffffffff ∷ []) ≡ cellAt 0 0 0 ∷ cellAt 3 8191 255 ∷ []
-  refused :
-      toCellOf 0x4420 4 0x1000000 ∷ toCellOf 0x4420 4 0x1000001 ∷ toCellOf 0x4428 4 0x1000001 ∷ toCellOf 0x0420 4 0x1000001 ∷ []
-      ≡ map noCell (5 ∷ 4 ∷ 1 ∷ 2 ∷ [])
-  outside : map (toAddressOf 0x4612 4) (cellAt 2 0 0 ∷ cellAt 0 8192 0 ∷ cellAt 0 0 1024 ∷ []) ≡ map noAddress (10 ∷ 10 ∷ 10 ∷ [])
   blocks : map blockOf (0 ∷ 0x7fe ∷ 0x800 ∷ 0xfffffe ∷ []) ≡ 0 ∷ 0 ∷ 1 ∷ 8191 ∷ []
 
 examples : Examples
-unfolding reservedMap offeredOf geometryOf mapNumberOf capacityOf cellOf addressOf holdsOf addressNumberOf locatedOf addressedOf toCellOf toAddressOf
-examples = record { cells = refl; addresses = refl; beyond = refl; refused = refl; outside = refl; blocks = refl }
+unfolding geometryOf cellOf
+examples = record { beyond = refl; blocks = refl }

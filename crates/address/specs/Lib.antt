@@ -1,4 +1,3 @@
 -- Document 01, "Address and cell".
 pub mod Map
-pub mod Standalone
 pub mod Memory

@@ -19,7 +19,7 @@ use Rattle.device.proofs.Tests.{by-test, four-banks}
 use Rattle.device.proofs.Alike.{Known, Alike, legal-same}
 use Rattle.device.proofs.Every.{Falling}
 use Rattle.ages.specs.declared.Past.{Past}
-use Rattle.ages.specs.Ages.{cap, freshOf, ageOf, openedOf, rowIn, rowAt, byAges, sentOf}
+use Rattle.ages.specs.Ages.{cap, freshOf, ageOf, openIn, rowIn, openRows, rowAt, byAges, sentOf}
 use Rattle.ages.proofs.Slot.{Aged, sent-age, sent-row, starts-nop, aged-sent, aged-fresh, fresh-age, reached, triedOf}
 
 -- an age beside the slot of the last command that started it
@@ -66,7 +66,7 @@ pub same-verdict : {c : Config} {p : Past} {l : Log} → Accepted c → Agrees p
 same-verdict {c} n a k = legal-same (alike n a) c (n .shaped) k
 
 fresh-row : (b : ℕ) → b < 4 → rowAt freshOf b ≡ none
-unfolding freshOf rowAt rowIn openedOf
+unfolding freshOf openRows rowIn openIn
 fresh-row b h = four-banks (λ n. rowAt freshOf n ≡ none) refl refl refl refl b h
 
 pub agrees-fresh : Agrees freshOf startLog

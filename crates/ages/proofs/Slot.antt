@@ -32,7 +32,7 @@ use Rattle.device.specs.Rules.{carriedOf}
 use Rattle.device.proofs.Tests.{four-banks}
 use Rattle.device.proofs.Alike.{Known}
 use Rattle.ages.specs.declared.Past.{Past}
-use Rattle.ages.specs.Ages.{cap, firstRow, freshOf, ageOf, openedOf, rowIn, rowAt, byAges, agedOf, agesAfter, sentOf}
+use Rattle.ages.specs.Ages.{cap, freshOf, ageOf, openIn, rowIn, openRows, rowAt, byAges, agedOf, agesAfter, sentOf}
 
 -- the ages that the banks' ACTs start
 act-aged : (p : Past) (k : Command) (b : ℕ) → b < 4 → getD (sentOf p k .ages) b 0 ≡ agedOf (marksOf k b .act) (getD (p .ages) b 0)
@@ -70,7 +70,7 @@ sent-age p k d h = sent-aged p k d h ∙ aged-min (starts d k) (ageOf p d)
 -- the open row of a bank after any slot
 pub sent-row : (p : Past) (k : Command) (b : ℕ) → b < 4
     → rowAt (sentOf p k) b ≡ cond (starts (rowCycle b) k) (some (rowOf k)) (cond (starts (rowPrecharge b) k) none (rowAt p b))
-unfolding sentOf rowAt rowIn openedOf
+unfolding sentOf openRows rowIn openIn
 sent-row p k b h =
     four-banks (λ n. rowAt (sentOf p k) n ≡ cond (starts (rowCycle n) k) (some (rowOf k)) (cond (starts (rowPrecharge n) k) none (rowAt p n)))
     (go 0 (marksOf k 0 .act) (marksOf k 0 .pre) (getD (p .opened) 0 false))
@@ -80,8 +80,8 @@ sent-row p k b h =
     b h
   where
     go : (n : ℕ) (f g o : Bool)
-        → cond (cond f true (cond g false o)) (some (cond f (rowOf k) (getD (p .rows) n firstRow))) none
-        ≡ cond f (some (rowOf k)) (cond g none (cond o (some (getD (p .rows) n firstRow)) none))
+        → cond (cond f true (cond g false o)) (some (record { 0 = cond f (rowOf k .0) (getD (p .rows) n 0) })) none
+        ≡ cond f (some (rowOf k)) (cond g none (cond o (some (record { 0 = getD (p .rows) n 0 })) none))
     go n true g o = refl
     go n false true o = refl
     go n false false o = refl

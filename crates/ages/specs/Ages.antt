@@ -31,11 +31,12 @@ use Rattle.ages.specs.declared.Past.{Past}
 abbrev pub cap : ℕ
 cap = 32
 
-abbrev pub firstRow : Row
-firstRow = record { 0 = 0 }
+-- a past of its parts
+abbrev pub pastOf : List ℕ → List Bool → List ℕ → Bool → Past
+pastOf ages opened rows programmed = record { ages = ages; opened = opened; rows = rows; programmed = programmed }
 
 unfoldable pub freshOf : Past
-freshOf = record { ages = replicate 16 cap; opened = replicate 4 false; rows = replicate 4 firstRow; programmed = false }
+freshOf = pastOf (replicate 16 cap) (replicate 4 false) (replicate 4 0) false
 
 -- the place of the age that a distance is read off: ACT of the four banks, PRE or DEAC of them, WRT to them, REFR, MRS, any PRE or DEAC, READ
 abbrev pub placeOf : Distance → ℕ
@@ -54,15 +55,18 @@ abbrev pub ageOf : Past → Distance → ℕ
 ageOf p d = getD (p .ages) (placeOf d) 0
 
 -- is a bank open, and which row was opened in it last? One that a device cannot have is closed.
-unfoldable pub openedOf : Past → ℕ → Bool
-openedOf p b = cond (ltb b 4) (getD (p .opened) b false) false
+unfoldable pub openIn : List Bool → ℕ → Bool
+openIn opened b = cond (ltb b 4) (getD opened b false) false
 
-unfoldable pub rowIn : Past → ℕ → Row
-rowIn p b = cond (ltb b 4) (getD (p .rows) b firstRow) firstRow
+unfoldable pub rowIn : List ℕ → ℕ → Row
+rowIn rows b = record { 0 = cond (ltb b 4) (getD rows b 0) 0 }
 
 -- the open row
-unfoldable pub rowAt : Past → ℕ → Option Row
-rowAt p b = cond (openedOf p b) (some (rowIn p b)) none
+unfoldable pub openRows : List Bool → List ℕ → ℕ → Option Row
+openRows opened rows b = cond (openIn opened b) (some (rowIn rows b)) none
+
+abbrev pub rowAt : Past → ℕ → Option Row
+rowAt p = openRows (p .opened) (p .rows)
 
 -- the view of the past by ages
 abbrev pub byAges : Config → Past → View
@@ -88,15 +92,14 @@ agesAfter a k =
 abbrev pub openAfter : List Bool → Command → ℕ → Bool
 openAfter o k b = cond (starts (rowCycle b) k) true (cond (starts (rowPrecharge b) k) false (getD o b false))
 
-abbrev pub rowAfter : List Row → Command → ℕ → Row
-rowAfter r k b = cond (starts (rowCycle b) k) (rowOf k) (getD r b firstRow)
+abbrev pub rowAfter : List ℕ → Command → ℕ → ℕ
+rowAfter r k b = cond (starts (rowCycle b) k) (rowOf k .0) (getD r b 0)
 
 -- the past after the slot's command k, that was sent
 unfoldable pub sentOf : Past → Command → Past
 sentOf p k =
-    record {
-      ages = agesAfter (p .ages) k;
-      opened = openAfter (p .opened) k 0 ∷ openAfter (p .opened) k 1 ∷ openAfter (p .opened) k 2 ∷ openAfter (p .opened) k 3 ∷ [];
-      rows = rowAfter (p .rows) k 0 ∷ rowAfter (p .rows) k 1 ∷ rowAfter (p .rows) k 2 ∷ rowAfter (p .rows) k 3 ∷ [];
-      programmed = cond (starts modeRegister k) true (p .programmed);
-    }
+    pastOf
+    (agesAfter (p .ages) k)
+    (openAfter (p .opened) k 0 ∷ openAfter (p .opened) k 1 ∷ openAfter (p .opened) k 2 ∷ openAfter (p .opened) k 3 ∷ [])
+    (rowAfter (p .rows) k 0 ∷ rowAfter (p .rows) k 1 ∷ rowAfter (p .rows) k 2 ∷ rowAfter (p .rows) k 3 ∷ [])
+    (cond (starts modeRegister k) true (p .programmed))

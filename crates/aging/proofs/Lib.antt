@@ -1,3 +1,3 @@
 -- The past after each command.
-pub mod Stores
+pub mod Slot
 pub mod Loop

@@ -1,2 +1,2 @@
 -- How the code makes the past after a command.
-pub mod Steps
+pub mod Noted

@@ -1,14 +1,15 @@
-// Owns the past after a slot: all ages a slot older, and what the slot's command starts (`ages` has the record).
+// Owns the past after a slot (`ages` has the record), made in place: what the slot's command starts is noted with age 0, and then the slot passes, in which all
+// ages become a slot older. A bank that no device has is taken for none.
 use address::Bank;
 use address::Row;
 use ages::CAP;
-use ages::Past;
-use command::Command;
 ghost use mathlib.Core.Path.{_≡_};
-ghost use mathlib.Core.Bool.{false};
+ghost use mathlib.Core.Bool.{false, true};
 ghost use mathlib.Core.List.{map};
-ghost use Rattle.ages.specs.Ages.{agedOf, sentOf};
-ghost use Rattle.aging.specs.Steps.{afterAct, afterRead, afterWrt, afterPre, afterDeac, afterRefr, afterMrs};
+ghost use Prim.Native.Nat.{_+_};
+ghost use lib.ListN.{set, replicate};
+ghost use Rattle.ages.specs.Ages.{agedOf};
+ghost use Rattle.aging.specs.Noted.{atBank, precharged};
 
 // An age after a slot whose command doesn't start its distances.
 fn aged(age: u8) -> u8
@@ -20,136 +21,86 @@ fn aged(age: u8) -> u8
     age + 1
 }
 
-// All ages a slot older.
-fn older(ages: [u8; 16]) -> [u8; 16]
-    ensures { λ r. ⌜ r ≡ map (agedOf false) ages ⌝ }
+// A slot passes.
+pub fn elapse(ages: &mut [u8; 16])
+    ensures { λ _. ⌜ now (ages .exit) ≡ map (agedOf false) (now (ages .entry)) ⌝ }
 {
-    let mut next = ages;
+    // The proof knows the length of a slice, and none of an array that is lent.
+    let all: &mut [u8] = ages;
     let mut i = 0;
     while i < 16 {
-        let age = next[i];
-        next[i] = aged(age);
+        let age = all[i];
+        all[i] = aged(age);
         i += 1;
     }
-    next
 }
 
-// The past after a NOP.
-fn rested(p: Past) -> Past
-    ensures { λ r. ⌜ r ≡ sentOf p Command.Nop ⌝ }
-{
-    let before = p.ages;
-    let ages = older(before);
-    let mut q = p;
-    q.ages = ages;
-    q
-}
+// What each command starts.
 
-// The past after an ACT, from that after a NOP in its slot; so for the six below. A bank that no device has is taken for none.
-fn after_act(next: Past, bank: Bank, row: Row) -> Past
-    ensures { λ r. ⌜ r ≡ afterAct next (bank .0) row ⌝ }
+pub fn note_act(
+    ages: &mut [u8; 16],
+    opened: &mut [bool; 4],
+    rows: &mut [u16; 4],
+    bank: Bank,
+    row: Row,
+)
+    ensures { λ _. ⌜ (now (ages .exit) ≡ atBank (now (ages .entry)) 0 (bank .0) 0) × (now (opened .exit) ≡ atBank (now (opened .entry)) 0 (bank .0) true) × (now (rows .exit) ≡ atBank (now (rows .entry)) 0 (bank .0) (row .0)) ⌝ }
 {
     let b = bank.0 as usize;
-    if 4 <= b {
-        return next;
+    if b < 4 {
+        ages[b] = 0;
+        opened[b] = true;
+        rows[b] = row.0;
     }
-    let mut ages = next.ages;
-    ages[b] = 1;
-    let mut opened = next.opened;
-    opened[b] = true;
-    let mut rows = next.rows;
-    rows[b] = row;
-    let mut q = next;
-    q.ages = ages;
-    q.opened = opened;
-    q.rows = rows;
-    q
 }
 
-fn after_read(next: Past) -> Past
-    ensures { λ r. ⌜ r ≡ afterRead next ⌝ }
+pub fn note_read(ages: &mut [u8; 16])
+    ensures { λ _. ⌜ now (ages .exit) ≡ set (now (ages .entry)) 15 0 ⌝ }
 {
-    let mut q = next;
-    q.ages[15] = 1;
-    q
+    ages[15] = 0;
 }
 
-fn after_wrt(next: Past, bank: Bank) -> Past
-    ensures { λ r. ⌜ r ≡ afterWrt next (bank .0) ⌝ }
+pub fn note_wrt(ages: &mut [u8; 16], bank: Bank)
+    ensures { λ _. ⌜ now (ages .exit) ≡ atBank (now (ages .entry)) 8 (bank .0) 0 ⌝ }
 {
     let b = bank.0 as usize;
-    if 4 <= b {
-        return next;
+    if b < 4 {
+        ages[8 + b] = 0;
     }
-    let mut ages = next.ages;
-    ages[8 + b] = 1;
-    let mut q = next;
-    q.ages = ages;
-    q
 }
 
 // A PRE starts R15's distance, too, whatever its bank.
-fn after_pre(next: Past, bank: Bank) -> Past
-    ensures { λ r. ⌜ r ≡ afterPre next (bank .0) ⌝ }
+pub fn note_pre(ages: &mut [u8; 16], opened: &mut [bool; 4], bank: Bank)
+    ensures { λ _. ⌜ (now (ages .exit) ≡ atBank (set (now (ages .entry)) 14 0) 4 (bank .0) 0) × (now (opened .exit) ≡ atBank (now (opened .entry)) 0 (bank .0) false) ⌝ }
 {
+    ages[14] = 0;
     let b = bank.0 as usize;
-    let mut q = next;
-    q.ages[14] = 1;
-    if 4 <= b {
-        return q;
+    if b < 4 {
+        ages[4 + b] = 0;
+        opened[b] = false;
     }
-    let mut ages = q.ages;
-    ages[4 + b] = 1;
-    let mut opened = q.opened;
-    opened[b] = false;
-    q.ages = ages;
-    q.opened = opened;
-    q
 }
 
-fn after_deac(next: Past) -> Past
-    ensures { λ r. ⌜ r ≡ afterDeac next ⌝ }
+pub fn note_deac(ages: &mut [u8; 16], opened: &mut [bool; 4])
+    ensures { λ _. ⌜ (now (ages .exit) ≡ precharged (now (ages .entry))) × (now (opened .exit) ≡ replicate 4 false) ⌝ }
 {
-    let mut q = next;
-    q.ages[4] = 1;
-    q.ages[5] = 1;
-    q.ages[6] = 1;
-    q.ages[7] = 1;
-    q.ages[14] = 1;
-    q.opened = [false; 4];
-    q
+    ages[4] = 0;
+    ages[5] = 0;
+    ages[6] = 0;
+    ages[7] = 0;
+    ages[14] = 0;
+    *opened = [false; 4];
 }
 
-fn after_refr(next: Past) -> Past
-    ensures { λ r. ⌜ r ≡ afterRefr next ⌝ }
+pub fn note_refr(ages: &mut [u8; 16])
+    ensures { λ _. ⌜ now (ages .exit) ≡ set (now (ages .entry)) 12 0 ⌝ }
 {
-    let mut q = next;
-    q.ages[12] = 1;
-    q
+    ages[12] = 0;
 }
 
-fn after_mrs(next: Past) -> Past
-    ensures { λ r. ⌜ r ≡ afterMrs next ⌝ }
+pub fn note_mrs(ages: &mut [u8; 16], programmed: &mut bool)
+    ensures { λ _. ⌜ (now (ages .exit) ≡ set (now (ages .entry)) 13 0) × (now (programmed .exit) ≡ true) ⌝ }
 {
-    let mut q = next;
-    q.ages[13] = 1;
-    q.programmed = true;
-    q
-}
-
-// The past after a slot that sent this command.
-pub fn sent(p: Past, command: Command) -> Past
-    ensures { λ r. ⌜ r ≡ sentOf p command ⌝ }
-{
-    let next = rested(p);
-    match command {
-        Command::Nop => next,
-        Command::Act(bank, row) => after_act(next, bank, row),
-        Command::Read(_, _) => after_read(next),
-        Command::Wrt(bank, _, _) => after_wrt(next, bank),
-        Command::Pre(bank) => after_pre(next, bank),
-        Command::Deac => after_deac(next),
-        Command::Refr => after_refr(next),
-        Command::Mrs(_) => after_mrs(next),
-    }
+    ages[13] = 0;
+    *programmed = true;
 }

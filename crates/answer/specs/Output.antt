@@ -3,7 +3,7 @@ use Prim.Native.Nat.{ℕ}
 use mathlib.Core.Option.{Option, none, some}
 use Rattle.text.specs.declared.Text.{Text}
 use Rattle.text.specs.Spelling.{letters, emptyOf, byteOf, wordOf, decimalOf}
-use Rattle.address.specs.declared.ToCell.{ToCell}
+use Rattle.standalone.specs.declared.ToCell.{ToCell}
 use Rattle.command.specs.declared.Command.{Command}
 use Rattle.command.specs.declared.Command.the-variants.{Nop, Act, Wrt, Pre, Deac, Refr, Mrs, Read as Fetch}
 use Rattle.plan.specs.declared.Report.{Report}

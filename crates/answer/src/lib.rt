@@ -1,7 +1,5 @@
 // Owns the lines that are written for a script's answers (REPLAY.md).
 use address::Bank;
-use address::ToAddress;
-use address::ToCell;
 use command::Command;
 use plan::Report;
 use script::ADDRESS;
@@ -11,6 +9,8 @@ use script::CONFIG;
 use script::READ;
 use script::SLOT;
 use script::WRITE;
+use standalone::ToAddress;
+use standalone::ToCell;
 use text::Text;
 ghost use mathlib.Core.Path.{_≡_};
 ghost use Rattle.answer.specs.Output.{

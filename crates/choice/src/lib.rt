@@ -1,18 +1,17 @@
 // Owns the code of the choice (document 01, "A service slot", rules 1 to 6; `plan` has the rules).
-use ages::Past;
 use plan::Action;
-use plan::Control;
 use queue::Found;
 use queue::Kind;
-use queue::Queue;
 use refresh::Level;
+ghost use Prim.Native.Nat.{ℕ};
 ghost use mathlib.Core.Path.{_≡_};
+ghost use mathlib.Core.List.{List};
 ghost use Rattle.device.specs.View.{allClosed};
-ghost use Rattle.ages.specs.Ages.{rowAt};
-ghost use Rattle.queue.specs.Places.{heldOf};
+ghost use Rattle.ages.specs.Ages.{openRows};
+ghost use Rattle.queue.specs.Places.{queueOf, heldOf};
 ghost use Rattle.queue.specs.Oldest.{oldestOf};
-ghost use Rattle.plan.specs.Choice.{accessOr, needs, idleRefresh, rulesOf, choiceOf, currentOf};
-ghost use Rattle.choice.specs.Rules.{fromRule5, fromRule3};
+ghost use Rattle.plan.specs.Choice.{accessOr, needs, idleRefresh, rulesOf};
+ghost use Rattle.choice.specs.Rules.{fromRule5, fromRule3, mustOf, actionOf};
 
 // The request found, or what a later rule chooses.
 fn access_or(found: Found, later: Action) -> Action
@@ -61,47 +60,53 @@ fn from_rule5(level: Level, closed: bool) -> Action
 }
 
 // Rules 3 to 6.
-fn from_rule3(level: Level, queue: Queue, past: Past) -> Action
-    ensures { λ r. ⌜ r ≡ fromRule3 level (oldestOf Kind.Write (heldOf queue)) (allClosed (rowAt past)) ⌝ }
+fn from_rule3(level: Level, places: &[u32; 24], count: u32, opened: &[bool; 4]) -> Action
+    ensures { λ r. ⌜ ((rows : List ℕ) → r ≡ fromRule3 level (oldestOf Kind.Write (heldOf (queueOf (now (places .entry)) count))) (allClosed (openRows (now (opened .entry)) rows))) ⌝ }
 {
     if needs(level) {
         return Action::PrechargeAll;
     }
-    let write = search::oldest(queue, Kind::Write);
-    let closed = ages::all_closed(past);
+    let write = search::oldest(places, count, Kind::Write);
+    let closed = ages::all_closed(opened);
     access_or(write, from_rule5(level, closed))
 }
 
 // Rules 1 to 6, from the Must run as of this choice and the backlog's level. The queue is searched only where a rule asks for it.
-fn choose(run: bool, level: Level, queue: Queue, past: Past) -> Action
-    ensures { λ r. ⌜ r ≡ rulesOf run level (oldestOf Kind.Read (heldOf queue)) (oldestOf Kind.Write (heldOf queue)) (allClosed (rowAt past)) ⌝ }
+fn choose(run: bool, level: Level, places: &[u32; 24], count: u32, opened: &[bool; 4]) -> Action
+    ensures { λ r. ⌜ ((rows : List ℕ) → r ≡ rulesOf run level (oldestOf Kind.Read (heldOf (queueOf (now (places .entry)) count))) (oldestOf Kind.Write (heldOf (queueOf (now (places .entry)) count))) (allClosed (openRows (now (opened .entry)) rows))) ⌝ }
 {
     if run {
         return Action::PrechargeAll;
     }
-    match search::oldest(queue, Kind::Read) {
+    match search::oldest(places, count, Kind::Read) {
         Found::At(i) => Action::Access(i),
-        Found::Nothing => from_rule3(level, queue, past),
+        Found::Nothing => from_rule3(level, places, count, opened),
     }
 }
 
-// A choice: the action, with the Must run flag.
-fn chosen(must: bool, backlog: u8, queue: Queue, past: Past) -> Control
-    ensures { λ r. ⌜ r ≡ choiceOf must backlog queue (allClosed (rowAt past)) .control ⌝ }
+// Is a Must run on after the slot's choice? Where an action is under way no choice is made.
+pub fn must_after(action: Action, must: bool, backlog: u8) -> bool
+    ensures { λ r. ⌜ r ≡ mustOf action must backlog ⌝ }
 {
-    let level = refresh::urgency(backlog);
-    let run = refresh::run_after(must, level);
-    let action = choose(run, level, queue, past);
-    Control { action, must: run }
-}
-
-// The action of a slot: the one under way goes on; if there is none, a choice is made.
-pub fn current(control: Control, backlog: u8, queue: Queue, past: Past) -> Control
-    ensures { λ r. ⌜ r ≡ currentOf control backlog queue (allClosed (rowAt past)) .control ⌝ }
-{
-    let action = control.action;
     if actions::is_idle(action) {
-        return chosen(control.must, backlog, queue, past);
+        return refresh::run_after(must, refresh::urgency(backlog));
     }
-    control
+    must
+}
+
+// The action of a slot: the one under way goes on; if there is none, a choice is made. `run` says whether a Must run is on after it.
+pub fn current(
+    action: Action,
+    run: bool,
+    backlog: u8,
+    places: &[u32; 24],
+    count: u32,
+    opened: &[bool; 4],
+) -> Action
+    ensures { λ r. ⌜ ((rows : List ℕ) → r ≡ actionOf action run backlog (queueOf (now (places .entry)) count) (allClosed (openRows (now (opened .entry)) rows))) ⌝ }
+{
+    if actions::is_idle(action) {
+        return choose(run, refresh::urgency(backlog), places, count, opened);
+    }
+    action
 }

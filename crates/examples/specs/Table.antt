@@ -6,8 +6,8 @@ use mathlib.Core.List.{List, [], _∷_}
 use Rattle.config.specs.declared.Config.{Config}
 use Rattle.config.specs.declared.Setting.{Setting}
 use Rattle.config.specs.Setting.{settingOf}
-use Rattle.address.specs.declared.ToCell.{ToCell}
-use Rattle.address.specs.Standalone.{toCellOf}
+use Rattle.standalone.specs.declared.ToCell.{ToCell}
+use Rattle.standalone.specs.Standalone.{toCellOf}
 use Rattle.command.specs.declared.Command.{Command}
 use Rattle.command.specs.declared.Command.the-variants.{Act, Read, Wrt, Pre, Deac, Refr, Mrs}
 use Rattle.plan.specs.Completion.{readDone, writeDone}

@@ -5,7 +5,7 @@ use mathlib.Core.Bool.{Bool, true, false, not, _&&_, _||_}
 use mathlib.Core.List.{[], _∷_}
 use lib.Dec.{leb, ltb, eqb, lit<}
 use lib.ListN.{getD}
-use borrow.Author.Tests.{not-false}
+use borrow.Author.Tests.{not-false, not-true}
 use Rattle.address.specs.declared.Bank.{Bank}
 use Rattle.address.specs.declared.Row.{Row}
 use Rattle.address.specs.declared.Column.{Column}
@@ -20,23 +20,30 @@ use Rattle.device.proofs.Alike.{in-four}
 use Rattle.ages.specs.declared.Past.{Past}
 use Rattle.ages.proofs.Record.{open-here}
 use Rattle.ages.specs.Ages.{rowAt, byAges}
-use Rattle.legality.specs.Settled.{settledOf}
+use Rattle.legality.specs.Verdict.{settledOf}
 
 and-true : (t : Bool) → (t && true) ≡ t
 and-true true = refl
 and-true false = refl
 
--- a bank that passed the test of R1 is one of the four
-pub in-bank : (c : Config) → Shaped (c .geometry) → (b : ℕ) (r : Bool) → r ≡ ltb b (2 ^ (c .geometry .banks)) → not r ≡ false → b < 4
-in-bank c n b r e h = in-four c n b (sym e ∙ not-false r h)
+-- a test that the code passed, and one that it failed
+pub passed : {r t : Bool} → r ≡ t → not r ≡ false → t ≡ true
+passed {r} e h = sym e ∙ not-false r h
+
+pub failed : {r t : Bool} → r ≡ t → not r ≡ true → t ≡ false
+failed {r} e h = sym e ∙ not-true r h
+
+-- a test that holds leaves the others
+pub true-and : {t : Bool} → t ≡ true → (x : Bool) → (t && x) ≡ x
+true-and e x = rw e
 
 module _ (c : Config) (p : Past) where
   -- R2's two come first
-  settled-first : (t : Bool) → (leb (c .rfc) (getD (p .ages) 12 0) && (leb 2 (getD (p .ages) 13 0) && t)) ≡ (settledOf c p && t)
+  settled-first : (t : Bool) → (leb (c .rfc) (getD (p .ages) 12 0) && (leb 2 (getD (p .ages) 13 0) && t)) ≡ (settledOf c (p .ages) && t)
   unfolding settledOf
   settled-first t = go (leb (c .rfc) (getD (p .ages) 12 0)) (leb 2 (getD (p .ages) 13 0))
     where
-      go : (x y : Bool) → (x && (y && t)) ≡ ((x && (y && true)) && t)
+      go : (x y : Bool) → (x && (y && t)) ≡ ((x && y) && t)
       go true true = refl
       go true false = refl
       go false y = refl
@@ -48,7 +55,7 @@ module _ (c : Config) (p : Past) where
       && ((not (getD (p .opened) 2 false) || leb (c .ras) (getD (p .ages) 2 0))
       && ((not (getD (p .opened) 3 false) || leb (c .ras) (getD (p .ages) 3 0)) && true))))
   unfolding R12-open
-  R12-is = rw (open-here p 0 (lit< tt), open-here p 1 (lit< tt), open-here p 2 (lit< tt), open-here p 3 (lit< tt))
+  R12-is = rw (open-here (p .opened) (p .rows) 0 (lit< tt), open-here (p .opened) (p .rows) 1 (lit< tt), open-here (p .opened) (p .rows) 2 (lit< tt), open-here (p .opened) (p .rows) 3 (lit< tt))
 
   pub R13-is : allHold (R13-open (byAges c p))
       ≡ ((not (getD (p .opened) 0 false) || leb (c .wr) (getD (p .ages) 8 0))
@@ -56,45 +63,45 @@ module _ (c : Config) (p : Past) where
       && ((not (getD (p .opened) 2 false) || leb (c .wr) (getD (p .ages) 10 0))
       && ((not (getD (p .opened) 3 false) || leb (c .wr) (getD (p .ages) 11 0)) && true))))
   unfolding R13-open
-  R13-is = rw (open-here p 0 (lit< tt), open-here p 1 (lit< tt), open-here p 2 (lit< tt), open-here p 3 (lit< tt))
+  R13-is = rw (open-here (p .opened) (p .rows) 0 (lit< tt), open-here (p .opened) (p .rows) 1 (lit< tt), open-here (p .opened) (p .rows) 2 (lit< tt), open-here (p .opened) (p .rows) 3 (lit< tt))
 
   R14-is : allHold (R14 (byAges c p)) ≡ allClosed (rowAt p)
   unfolding R14 allClosed
   R14-is = rw (and-true (not (isSome (rowAt p 3))))
 
   pub act-is : (b : Bank) (r : Row) → legalOf c (byAges c p) (Act b r)
-      ≡ (ltb (b .0) (2 ^ (c .geometry .banks)) && (ltb (r .0) (2 ^ (c .geometry .rows)) && (settledOf c p && (p .programmed
+      ≡ (ltb (b .0) (2 ^ (c .geometry .banks)) && (ltb (r .0) (2 ^ (c .geometry .rows)) && (settledOf c (p .ages) && (p .programmed
       && (not (isSome (rowAt p (b .0))) && (leb (c .rp) (getD (p .ages) (4 + b .0) 0) && (leb (c .rc) (getD (p .ages) (b .0) 0)
       && allHold (R7 (byAges c p) (b .0)))))))))
   unfolding legalOf requirements
   act-is b r = rw settled-first
 
   pub read-is : (b : Bank) (k : Column) → legalOf c (byAges c p) (Read b k)
-      ≡ (ltb (b .0) (2 ^ (c .geometry .banks)) && (ltb (k .0) (2 ^ (c .geometry .columns)) && (settledOf c p
+      ≡ (ltb (b .0) (2 ^ (c .geometry .banks)) && (ltb (k .0) (2 ^ (c .geometry .columns)) && (settledOf c (p .ages)
       && (isSome (rowAt p (b .0)) && (leb (c .rcd) (getD (p .ages) (b .0) 0) && true)))))
   unfolding legalOf requirements
   read-is b k = rw settled-first
 
   -- a WRT's rules are a READ's and R10, whatever its halfword
   pub wrt-is : (b : Bank) (k : Column) (x : ℕ) → legalOf c (byAges c p) (Wrt b k x)
-      ≡ (legalOf c (byAges c p) (Read b k) && (leb (c .latency + 2) (getD (p .ages) 15 0) && true))
+      ≡ (legalOf c (byAges c p) (Read b k) && leb (c .latency + 2) (getD (p .ages) 15 0))
   unfolding legalOf requirements
-  wrt-is b k x = hold-append (requirements c (byAges c p) (Read b k)) (R10 (byAges c p) ∷ [])
+  wrt-is b k x = rw (hold-append (requirements c (byAges c p) (Read b k)) (R10 (byAges c p) ∷ []), and-true (leb (c .latency + 2) (getD (p .ages) 15 0)))
 
   pub wrt-any : (b : Bank) (k : Column) (x y : ℕ) → legalOf c (byAges c p) (Wrt b k x) ≡ legalOf c (byAges c p) (Wrt b k y)
   wrt-any b k x y = wrt-is b k x ∙ sym (wrt-is b k y)
 
   pub pre-is : (b : Bank) → legalOf c (byAges c p) (Pre b)
-      ≡ (ltb (b .0) (2 ^ (c .geometry .banks)) && (settledOf c p && (isSome (rowAt p (b .0))
+      ≡ (ltb (b .0) (2 ^ (c .geometry .banks)) && (settledOf c (p .ages) && (isSome (rowAt p (b .0))
       && (leb (c .ras) (getD (p .ages) (b .0) 0) && (leb (c .wr) (getD (p .ages) (8 + b .0) 0) && true)))))
   unfolding legalOf requirements
   pre-is b = rw settled-first
 
-  pub deac-is : legalOf c (byAges c p) Deac ≡ (settledOf c p && (allHold (R12-open (byAges c p)) && allHold (R13-open (byAges c p))))
+  pub deac-is : legalOf c (byAges c p) Deac ≡ (settledOf c (p .ages) && (allHold (R12-open (byAges c p)) && allHold (R13-open (byAges c p))))
   unfolding legalOf requirements
   deac-is = rw (settled-first, hold-append (R12-open (byAges c p)))
 
-  pub refr-is : legalOf c (byAges c p) Refr ≡ (settledOf c p && (allClosed (rowAt p) && (leb (c .rp) (getD (p .ages) 14 0) && true)))
+  pub refr-is : legalOf c (byAges c p) Refr ≡ (settledOf c (p .ages) && (allClosed (rowAt p) && (leb (c .rp) (getD (p .ages) 14 0) && true)))
   unfolding legalOf requirements
   refr-is = rw (settled-first, hold-append (R14 (byAges c p)), R14-is)
 
@@ -102,14 +109,3 @@ module _ (c : Config) (p : Past) where
   pub mrs-is : (w : ℕ) → legalOf c (byAges c p) (Mrs w) ≡ (eqb w (16 * c .latency) && legalOf c (byAges c p) Refr)
   unfolding legalOf requirements
   mrs-is w = refl
-
-  -- a legal command's bank is one of the four
-  module _ (n : Shaped (c .geometry)) (b : Bank) where
-    pub act-four : (r : Row) → legalOf c (byAges c p) (Act b r) ≡ true → b .0 < 4
-    act-four r e = in-four c n (b .0) (both _ _ (sym (act-is b r) ∙ e) .0)
-
-    pub wrt-four : (k : Column) (x : ℕ) → legalOf c (byAges c p) (Wrt b k x) ≡ true → b .0 < 4
-    wrt-four k x e = in-four c n (b .0) (both _ _ (sym (read-is b k) ∙ both _ _ (sym (wrt-is b k x) ∙ e) .0) .0)
-
-    pub pre-four : legalOf c (byAges c p) (Pre b) ≡ true → b .0 < 4
-    pre-four e = in-four c n (b .0) (both _ _ (sym (pre-is b) ∙ e) .0)

@@ -1,2 +1,2 @@
--- How the code tests a command.
-pub mod Settled
+-- What the tests say.
+pub mod Verdict

@@ -1,18 +1,19 @@
-// Owns the test whether a command is legal in the next slot, by the ages (document 01, R1 to R15; `device` has the rules).
+// Owns the test whether a command is legal in the next slot, by the ages (document 01, R1 to R15; `device` has the rules). No rule asks which rows are
+// open, and only ACT's ask whether the mode is set: the contracts say so for every one.
 use address::Bank;
 use address::Column;
 use address::Row;
-use ages::Past;
 use command::Command;
 use config::Config;
 ghost use mathlib.Core.Path.{_≡_};
-ghost use mathlib.Core.Bool.{not, _||_};
-ghost use Prim.Native.Nat.{_≤_, _^_};
+ghost use mathlib.Core.Bool.{Bool, not, _||_};
+ghost use mathlib.Core.List.{List};
+ghost use Prim.Native.Nat.{ℕ, _+_, _≤_, _^_};
 ghost use lib.Dec.{leb, ltb, eqb};
 ghost use Rattle.config.specs.Accepted.{Shaped};
 ghost use Rattle.device.specs.Rules.{allHold, R7, R12-open, R13-open, legalOf};
-ghost use Rattle.ages.specs.Ages.{byAges};
-ghost use Rattle.legality.specs.Settled.{settledOf};
+ghost use Rattle.ages.specs.Ages.{pastOf, byAges};
+ghost use Rattle.legality.specs.Verdict.{Verdict, settledOf};
 
 // Is a number below 2 to the power of a width?
 fn inside(n: u16, width: u8) -> bool
@@ -23,13 +24,13 @@ fn inside(n: u16, width: u8) -> bool
 }
 
 // R2.
-fn settled(c: Config, p: Past) -> bool
-    ensures { λ r. ⌜ r ≡ settledOf c p ⌝ }
+fn settled(c: Config, ages: &[u8; 16]) -> bool
+    ensures { λ r. ⌜ r ≡ settledOf c (now (ages .entry)) ⌝ }
 {
-    if p.ages[12] < c.rfc {
+    if ages[12] < c.rfc {
         return false;
     }
-    if p.ages[13] < 2 {
+    if ages[13] < 2 {
         return false;
     }
     true
@@ -46,19 +47,19 @@ fn apart(age: u8, other: u8, b: u8, distance: u8) -> bool
 }
 
 // R7.
-fn all_apart(c: Config, p: Past, b: u8) -> bool
-    ensures { λ r. ⌜ r ≡ allHold (R7 (byAges c p) b) ⌝ }
+fn all_apart(c: Config, ages: &[u8; 16], b: u8) -> bool
+    ensures { λ r. ⌜ ((opened : List Bool) (rows : List ℕ) (programmed : Bool) → r ≡ allHold (R7 (byAges c (pastOf (now (ages .entry)) opened rows programmed)) b)) ⌝ }
 {
-    if !apart(p.ages[0], 0, b, c.rrd) {
+    if !apart(ages[0], 0, b, c.rrd) {
         return false;
     }
-    if !apart(p.ages[1], 1, b, c.rrd) {
+    if !apart(ages[1], 1, b, c.rrd) {
         return false;
     }
-    if !apart(p.ages[2], 2, b, c.rrd) {
+    if !apart(ages[2], 2, b, c.rrd) {
         return false;
     }
-    if !apart(p.ages[3], 3, b, c.rrd) {
+    if !apart(ages[3], 3, b, c.rrd) {
         return false;
     }
     true
@@ -75,47 +76,61 @@ fn free(opened: bool, age: u8, distance: u8) -> bool
 }
 
 // R12 for a DEAC.
-fn all_active(c: Config, p: Past) -> bool
-    ensures { λ r. ⌜ r ≡ allHold (R12-open (byAges c p)) ⌝ }
+fn all_active(c: Config, ages: &[u8; 16], opened: &[bool; 4]) -> bool
+    ensures { λ r. ⌜ ((rows : List ℕ) (programmed : Bool) → r ≡ allHold (R12-open (byAges c (pastOf (now (ages .entry)) (now (opened .entry)) rows programmed)))) ⌝ }
 {
-    if !free(p.opened[0], p.ages[0], c.ras) {
+    if !free(opened[0], ages[0], c.ras) {
         return false;
     }
-    if !free(p.opened[1], p.ages[1], c.ras) {
+    if !free(opened[1], ages[1], c.ras) {
         return false;
     }
-    if !free(p.opened[2], p.ages[2], c.ras) {
+    if !free(opened[2], ages[2], c.ras) {
         return false;
     }
-    if !free(p.opened[3], p.ages[3], c.ras) {
+    if !free(opened[3], ages[3], c.ras) {
         return false;
     }
     true
 }
 
 // R13 for a DEAC.
-fn all_written(c: Config, p: Past) -> bool
-    ensures { λ r. ⌜ r ≡ allHold (R13-open (byAges c p)) ⌝ }
+fn all_written(c: Config, ages: &[u8; 16], opened: &[bool; 4]) -> bool
+    ensures { λ r. ⌜ ((rows : List ℕ) (programmed : Bool) → r ≡ allHold (R13-open (byAges c (pastOf (now (ages .entry)) (now (opened .entry)) rows programmed)))) ⌝ }
 {
-    if !free(p.opened[0], p.ages[8], c.wr) {
+    if !free(opened[0], ages[8], c.wr) {
         return false;
     }
-    if !free(p.opened[1], p.ages[9], c.wr) {
+    if !free(opened[1], ages[9], c.wr) {
         return false;
     }
-    if !free(p.opened[2], p.ages[10], c.wr) {
+    if !free(opened[2], ages[10], c.wr) {
         return false;
     }
-    if !free(p.opened[3], p.ages[11], c.wr) {
+    if !free(opened[3], ages[11], c.wr) {
         return false;
     }
     true
 }
 
+// R10, by the age of the last READ.
+fn read_to_write(age: u8, latency: u8) -> bool
+    ensures { λ r. ⌜ r ≡ leb (latency + 2) age ⌝ }
+{
+    (latency as u16) + 2 <= (age as u16)
+}
+
 // ACT: R1 to R7.
-pub fn act_legal(c: Config, p: Past, bank: Bank, row: Row) -> bool
+pub fn act_legal(
+    c: Config,
+    ages: &[u8; 16],
+    opened: &[bool; 4],
+    programmed: bool,
+    bank: Bank,
+    row: Row,
+) -> bool
     requires { ⌜ Shaped (c .geometry) ⌝ }
-    ensures { λ r. ⌜ r ≡ legalOf c (byAges c p) (Command.Act bank row) ⌝ }
+    ensures { λ r. ⌜ ((rows : List ℕ) → r ≡ legalOf c (byAges c (pastOf (now (ages .entry)) (now (opened .entry)) rows programmed)) (Command.Act bank row)) ⌝ }
 {
     if !inside(bank.0 as u16, c.geometry.banks) {
         return false;
@@ -123,31 +138,35 @@ pub fn act_legal(c: Config, p: Past, bank: Bank, row: Row) -> bool
     if !inside(row.0, c.geometry.rows) {
         return false;
     }
-    if !settled(c, p) {
+    if !settled(c, ages) {
         return false;
     }
-    if !p.programmed {
+    if !programmed {
         return false;
     }
     let b = bank.0 as usize;
-    let opened = p.opened;
     if opened[b] {
         return false;
     }
-    let ages = p.ages;
     if ages[4 + b] < c.rp {
         return false;
     }
     if ages[b] < c.rc {
         return false;
     }
-    all_apart(c, p, bank.0)
+    all_apart(c, ages, bank.0)
 }
 
 // READ: R1, R2, R8, R9.
-pub fn read_legal(c: Config, p: Past, bank: Bank, column: Column) -> bool
+pub fn read_legal(
+    c: Config,
+    ages: &[u8; 16],
+    opened: &[bool; 4],
+    bank: Bank,
+    column: Column,
+) -> bool
     requires { ⌜ Shaped (c .geometry) ⌝ }
-    ensures { λ r. ⌜ r ≡ legalOf c (byAges c p) (Command.Read bank column) ⌝ }
+    ensures { λ r. ⌜ Verdict c (now (ages .entry)) (now (opened .entry)) (Command.Read bank column) r ⌝ }
 {
     if !inside(bank.0 as u16, c.geometry.banks) {
         return false;
@@ -155,15 +174,13 @@ pub fn read_legal(c: Config, p: Past, bank: Bank, column: Column) -> bool
     if !inside(column.0, c.geometry.columns) {
         return false;
     }
-    if !settled(c, p) {
+    if !settled(c, ages) {
         return false;
     }
     let b = bank.0 as usize;
-    let opened = p.opened;
     if !opened[b] {
         return false;
     }
-    let ages = p.ages;
     if ages[b] < c.rcd {
         return false;
     }
@@ -171,36 +188,31 @@ pub fn read_legal(c: Config, p: Past, bank: Bank, column: Column) -> bool
 }
 
 // WRT: READ's rules and R10. The halfword doesn't matter.
-pub fn wrt_legal(c: Config, p: Past, bank: Bank, column: Column) -> bool
+pub fn wrt_legal(c: Config, ages: &[u8; 16], opened: &[bool; 4], bank: Bank, column: Column) -> bool
     requires { ⌜ Shaped (c .geometry) ⌝ }
-    ensures { λ r. ⌜ r ≡ legalOf c (byAges c p) (Command.Wrt bank column 0) ⌝ }
+    ensures { λ r. ⌜ Verdict c (now (ages .entry)) (now (opened .entry)) (Command.Wrt bank column 0) r ⌝ }
 {
-    if !read_legal(c, p, bank, column) {
+    if !read_legal(c, ages, opened, bank, column) {
         return false;
     }
-    if (p.ages[15] as u16) < (c.latency as u16) + 2 {
-        return false;
-    }
-    true
+    read_to_write(ages[15], c.latency)
 }
 
 // PRE: R1, R2, R11, R12, R13.
-pub fn pre_legal(c: Config, p: Past, bank: Bank) -> bool
+pub fn pre_legal(c: Config, ages: &[u8; 16], opened: &[bool; 4], bank: Bank) -> bool
     requires { ⌜ Shaped (c .geometry) ⌝ }
-    ensures { λ r. ⌜ r ≡ legalOf c (byAges c p) (Command.Pre bank) ⌝ }
+    ensures { λ r. ⌜ Verdict c (now (ages .entry)) (now (opened .entry)) (Command.Pre bank) r ⌝ }
 {
     if !inside(bank.0 as u16, c.geometry.banks) {
         return false;
     }
-    if !settled(c, p) {
+    if !settled(c, ages) {
         return false;
     }
     let b = bank.0 as usize;
-    let opened = p.opened;
     if !opened[b] {
         return false;
     }
-    let ages = p.ages;
     if ages[b] < c.ras {
         return false;
     }
@@ -211,40 +223,40 @@ pub fn pre_legal(c: Config, p: Past, bank: Bank) -> bool
 }
 
 // DEAC: R2, R12, R13.
-pub fn deac_legal(c: Config, p: Past) -> bool
-    ensures { λ r. ⌜ r ≡ legalOf c (byAges c p) Command.Deac ⌝ }
+pub fn deac_legal(c: Config, ages: &[u8; 16], opened: &[bool; 4]) -> bool
+    ensures { λ r. ⌜ Verdict c (now (ages .entry)) (now (opened .entry)) Command.Deac r ⌝ }
 {
-    if !settled(c, p) {
+    if !settled(c, ages) {
         return false;
     }
-    if !all_active(c, p) {
+    if !all_active(c, ages, opened) {
         return false;
     }
-    all_written(c, p)
+    all_written(c, ages, opened)
 }
 
 // REFR: R2, R14, R15.
-pub fn refr_legal(c: Config, p: Past) -> bool
-    ensures { λ r. ⌜ r ≡ legalOf c (byAges c p) Command.Refr ⌝ }
+pub fn refr_legal(c: Config, ages: &[u8; 16], opened: &[bool; 4]) -> bool
+    ensures { λ r. ⌜ Verdict c (now (ages .entry)) (now (opened .entry)) Command.Refr r ⌝ }
 {
-    if !settled(c, p) {
+    if !settled(c, ages) {
         return false;
     }
-    if !ages::all_closed(p) {
+    if !ages::all_closed(opened) {
         return false;
     }
-    if p.ages[14] < c.rp {
+    if ages[14] < c.rp {
         return false;
     }
     true
 }
 
 // MRS: R1 and REFR's rules.
-pub fn mrs_legal(c: Config, p: Past, word: u16) -> bool
-    ensures { λ r. ⌜ r ≡ legalOf c (byAges c p) (Command.Mrs word) ⌝ }
+pub fn mrs_legal(c: Config, ages: &[u8; 16], opened: &[bool; 4], word: u16) -> bool
+    ensures { λ r. ⌜ Verdict c (now (ages .entry)) (now (opened .entry)) (Command.Mrs word) r ⌝ }
 {
     if word != 16 * (c.latency as u16) {
         return false;
     }
-    refr_legal(c, p)
+    refr_legal(c, ages, opened)
 }

@@ -17,8 +17,8 @@ use Rattle.device.specs.View.{allClosed, marksOf, rowOf}
 use Rattle.device.proofs.Tests.{both}
 use Rattle.device.specs.Rules.{R7, R12-open, R13-open, R14, requirements, legalOf, carriedOf}
 use Rattle.device.specs.History.{last, openRow, startLog, fed}
-use Rattle.ages.specs.Ages.{freshOf, openedOf, rowIn, rowAt, agedOf, agesAfter, sentOf}
-use Rattle.queue.specs.Places.{without, emptyOf, acceptOf, removeOf, getOf}
+use Rattle.ages.specs.Ages.{freshOf, openIn, rowIn, openRows, agedOf, agesAfter, sentOf}
+use Rattle.queue.specs.Places.{kindIn, requestIn, requestAt, getOf, emptyOf, storedOf, acceptOf, shiftedOf, removeOf}
 use Rattle.queue.specs.Oldest.{blockedOf, readyOf, oldestOf}
 use Rattle.refresh.specs.Counting.{startOf, tickOf, refreshedOf, expiriesOf, soundCounters}
 use Rattle.refresh.specs.Urgency.{levelOf}
@@ -76,7 +76,7 @@ brim = world (opening ++ (times 80 (read 0x800 ∷ times 4 (slot 0 ∷ [])) ++ r
 
 -- a read of address 2, a write of it and a read of it, all accepted before slot 1, after so many slots
 pub chain : ℕ → World
-chain n = world (read 2 ∷ write 2 9 ∷ read 2 ∷ times n (slot 0 ∷ []))
+chain n = world (read 2 ∷ write 2 65535 ∷ read 2 ∷ times n (slot 0 ∷ []))
 
 -- is a number not among these?
 abbrev absent : ℕ → List ℕ → Bool
@@ -105,7 +105,7 @@ pub record ClosedRun : Type 0 where
   pub refreshed : refreshes (machine .config) (world (opening ++ (busy ++ rest))) ≡ 15
 
 pub closed-run : ClosedRun
-unfolding firstService times machine world opening busy rest settingOf reservedAll reservedMap offeredOf checkedOf configOf geometryOf addressNumberOf capacityOf cellOf holdsOf allClosed marksOf rowOf R7 R12-open R13-open R14 requirements legalOf last openRow startLog fed freshOf openedOf rowIn rowAt agedOf agesAfter sentOf carriedOf without emptyOf acceptOf removeOf getOf blockedOf readyOf oldestOf startOf tickOf refreshedOf soundCounters levelOf soundAction plan.quietly plan.outcomeOf plan.tries plan.rest plan.afterPause plan.afterInitRefresh plan.readPlan plan.writePlan plan.transferPlan plan.accessPlan plan.takenPlan plan.latencyPlan plan.cycleLeft plan.refreshPlan plan.planOf plan.queueAfter plan.countersAfter rulesOf choiceOf currentOf tickedOf turnOf blankOf machineOf stepOf stateBy fitBy soundBy configAccepted shapedOf distancesOf spannedOf configuredBy configureOf recordNumberBy roomNumberOf requestNumberBy queuedRequest enqueuedOf requestOf slotOf stored startSdram cellsAfter drivenAfter takes sdramAfter startFlat taken flatAfter startWorld busOf slotIn afterSlot afterRequest after played
+unfolding firstService times machine world opening busy rest settingOf reservedAll reservedMap offeredOf checkedOf configOf geometryOf addressNumberOf capacityOf cellOf holdsOf allClosed marksOf rowOf R7 R12-open R13-open R14 requirements legalOf last openRow startLog fed freshOf openIn rowIn openRows agedOf agesAfter sentOf carriedOf emptyOf acceptOf storedOf removeOf shiftedOf getOf requestAt requestIn kindIn blockedOf readyOf oldestOf startOf tickOf refreshedOf soundCounters levelOf soundAction plan.quietly plan.outcomeOf plan.tries plan.rest plan.afterPause plan.afterInitRefresh plan.readPlan plan.writePlan plan.transferPlan plan.accessPlan plan.takenPlan plan.latencyPlan plan.cycleLeft plan.refreshPlan plan.planOf plan.queueAfter plan.countersAfter rulesOf choiceOf currentOf tickedOf turnOf blankOf machineOf stepOf stateBy fitBy soundBy configAccepted shapedOf distancesOf spannedOf configuredBy configureOf recordNumberBy roomNumberOf requestNumberBy queuedRequest enqueuedOf requestOf slotOf stored startSdram cellsAfter drivenAfter takes sdramAfter startFlat taken flatAfter startWorld busOf slotIn afterSlot afterRequest after played
 closed-run =
     record {
       odd = refl;
@@ -128,18 +128,18 @@ pub record ClosedClaim : Type 0 where
   -- the write's; and these reports are as claimed
   pub told :
       map (λ w. completionOf (slotIn w 0 .report)) (chain 230 ∷ chain 232 ∷ chain 235 ∷ [])
-      ≡ some (readDone 1 5) ∷ some (writeDone 2) ∷ some (readDone 3 9) ∷ []
+      ≡ some (readDone 1 5) ∷ some (writeDone 2) ∷ some (readDone 3 65535) ∷ []
   pub read-reported : Reports (chain 230) (slotIn (chain 230) 0 .report)
   pub reread-reported : Reports (chain 235) (slotIn (chain 235) 0 .report)
   -- then three requests were accepted, none waits, each was reported once; and both memories have the write's halfword, the cells in column 1
   pub accepted : chain 236 .flat .count ≡ 3
   pub waiting : chain 236 .machine .queue .count ≡ 0
   pub once : chain 236 .reported ≡ 3 ∷ 2 ∷ 1 ∷ []
-  pub flat-nine : chain 236 .flat .contents 2 ≡ 9
-  pub cells-nine : chain 236 .sdram .cells (cellAt 0 0 1) ≡ 9
+  pub flat-written : chain 236 .flat .contents 2 ≡ 65535
+  pub cells-written : chain 236 .sdram .cells (cellAt 0 0 1) ≡ 65535
 
 pub closed-claim : ClosedClaim
-unfolding firstService expiriesOf times machine world opening brim chain settingOf reservedAll reservedMap offeredOf checkedOf configOf geometryOf addressNumberOf capacityOf cellOf holdsOf allClosed marksOf rowOf R7 R12-open R13-open R14 requirements legalOf last openRow startLog fed freshOf openedOf rowIn rowAt agedOf agesAfter sentOf carriedOf without emptyOf acceptOf removeOf getOf blockedOf readyOf oldestOf startOf tickOf refreshedOf soundCounters levelOf soundAction plan.quietly plan.outcomeOf plan.tries plan.rest plan.afterPause plan.afterInitRefresh plan.readPlan plan.writePlan plan.transferPlan plan.accessPlan plan.takenPlan plan.latencyPlan plan.cycleLeft plan.refreshPlan plan.planOf plan.queueAfter plan.countersAfter rulesOf choiceOf currentOf tickedOf turnOf blankOf machineOf stepOf stateBy fitBy soundBy configAccepted shapedOf distancesOf spannedOf configuredBy configureOf recordNumberBy roomNumberOf requestNumberBy queuedRequest enqueuedOf requestOf slotOf stored startSdram cellsAfter drivenAfter takes sdramAfter startFlat taken flatAfter startWorld busOf slotIn afterSlot afterRequest after played
+unfolding firstService expiriesOf times machine world opening brim chain settingOf reservedAll reservedMap offeredOf checkedOf configOf geometryOf addressNumberOf capacityOf cellOf holdsOf allClosed marksOf rowOf R7 R12-open R13-open R14 requirements legalOf last openRow startLog fed freshOf openIn rowIn openRows agedOf agesAfter sentOf carriedOf emptyOf acceptOf storedOf removeOf shiftedOf getOf requestAt requestIn kindIn blockedOf readyOf oldestOf startOf tickOf refreshedOf soundCounters levelOf soundAction plan.quietly plan.outcomeOf plan.tries plan.rest plan.afterPause plan.afterInitRefresh plan.readPlan plan.writePlan plan.transferPlan plan.accessPlan plan.takenPlan plan.latencyPlan plan.cycleLeft plan.refreshPlan plan.planOf plan.queueAfter plan.countersAfter rulesOf choiceOf currentOf tickedOf turnOf blankOf machineOf stepOf stateBy fitBy soundBy configAccepted shapedOf distancesOf spannedOf configuredBy configureOf recordNumberBy roomNumberOf requestNumberBy queuedRequest enqueuedOf requestOf slotOf stored startSdram cellsAfter drivenAfter takes sdramAfter startFlat taken flatAfter startWorld busOf slotIn afterSlot afterRequest after played
 closed-claim =
     record {
       twelve = refl;
@@ -150,6 +150,6 @@ closed-claim =
       accepted = refl;
       waiting = refl;
       once = refl;
-      flat-nine = refl;
-      cells-nine = refl;
+      flat-written = refl;
+      cells-written = refl;
     }

@@ -27,7 +27,7 @@ use Rattle.sequencer.specs.declared.Slot.{Slot}
 use Rattle.numbers.specs.Numbers.{lastNumber}
 use Rattle.sequencer.specs.Calls.{configureOf, recordNumberOf, readRequestOf, writeRequestOf, backlogOf}
 use Rattle.model.specs.Sdram.{Cells, takes}
-use Rattle.model.specs.World.{World, Call, read, write, slot, backlog, slotIn, startWorld, after}
+use Rattle.model.specs.World.{World, halfwordOf, Call, read, write, slot, backlog, slotIn, startWorld, after}
 
 -- Service slots and their REFRs, off the SDRAM's history.
 
@@ -139,7 +139,7 @@ pub record Exact (c : Config) (w : World) (r : Reading) : Type 0 where
 
 abbrev pub Right : Config → World → Call → Type 0
 Right c w (read a) = Answered c w a (readRequestOf (w .machine) a)
-Right c w (write a h) = Answered c w a (writeRequestOf (w .machine) a h)
+Right c w (write a h) = Answered c w a (writeRequestOf (w .machine) a (halfwordOf h))
 Right c w (slot any) = Carried c w (slotIn w any)
 Right c w backlog = Exact c w (backlogOf (w .machine))
 

@@ -1,5 +1,5 @@
 -- Every list of calls on one machine from its accepted configuration on, beside the plain SDRAM and the flat memory.
-use Prim.Native.Nat.{ℕ}
+use Prim.Native.Nat.{ℕ, _%_}
 use mathlib.Core.List.{List, [], _∷_}
 use mathlib.Core.Option.{Option, none, some}
 use Rattle.config.specs.declared.Config.{Config}
@@ -12,6 +12,10 @@ use Rattle.sequencer.specs.declared.Slot.{Slot}
 use Rattle.sequencer.specs.Calls.{readRequestOf, writeRequestOf, slotOf}
 use Rattle.model.specs.Sdram.{Cells, Sdram, startSdram, drivenIn, sdramAfter}
 use Rattle.model.specs.Flat.{Flat, startFlat, flatAfter}
+
+-- a number's low 16 bits: every halfword is one, and nothing else
+abbrev pub halfwordOf : ℕ → ℕ
+halfwordOf n = n % 65536
 
 -- a call with its arguments; a slot has the halfword that the bus carries if the SDRAM has none on it
 pub data Call : Type 0 where
@@ -75,10 +79,10 @@ afterRequest w kind address halfword r =
       reported = w .reported;
     }
 
--- one call, handed the record that the one before gave; a reading call leaves everything as it was
+-- one call, handed the record that the one before gave; a write has the halfword `halfwordOf` its number; a reading call leaves everything as it was
 unfoldable pub after : Config → World → Call → World
 after c w (read a) = afterRequest w Kind.Read a 0 (readRequestOf (w .machine) a)
-after c w (write a h) = afterRequest w Kind.Write a h (writeRequestOf (w .machine) a h)
+after c w (write a h) = afterRequest w Kind.Write a (halfwordOf h) (writeRequestOf (w .machine) a (halfwordOf h))
 after c w (slot any) = afterSlot c w (slotIn w any)
 after c w backlog = w
 

@@ -20,7 +20,7 @@ use Rattle.queue.specs.declared.Found.{Found}
 use Rattle.queue.specs.declared.Found.the-variants.{At}
 use Rattle.queue.specs.declared.Request.{Request}
 use Rattle.queue.specs.declared.Queue.{Queue}
-use Rattle.queue.specs.Places.{requestFor, heldOf, without, emptyOf, acceptOf, removeOf, getOf}
+use Rattle.queue.specs.Places.{requestFor, kindIn, requestIn, requestAt, heldOf, emptyOf, storedOf, acceptOf, shiftedOf, removeOf, getOf}
 use Rattle.queue.specs.Oldest.{blockedOf, readyOf, oldestOf}
 use Rattle.refresh.specs.declared.Counters.{Counters}
 use Rattle.refresh.specs.declared.Level.{Level}
@@ -160,7 +160,7 @@ currents : map (λ (x : Choice). x .control)
     ∷ control Turnaround true
     ∷ control (PowerUp 3) false
     ∷ []
-unfolding asks mixed held control currentOf choiceOf rulesOf levelOf emptyOf acceptOf getOf oldestOf readyOf blockedOf
+unfolding asks mixed held control currentOf choiceOf rulesOf levelOf emptyOf kindIn requestIn storedOf acceptOf getOf oldestOf readyOf blockedOf
 currents = refl
 
 -- which actions leave a choice open, in which the refresh counters run, and whose request is under way
@@ -365,7 +365,7 @@ start x =
     (queue emptyOf (x .requests)) 100
 
 runs-played : map start runs ≡ map (λ (x : Run). x .lines) runs
-unfolding configOf geometryOf cellOf addressOf asked act rd wrt pre still ready opened written control runs played logged queue start turnOf tickedOf currentOf choiceOf rulesOf planOf refreshPlan cycleLeft latencyPlan takenPlan accessPlan transferPlan writePlan readPlan rest tries outcomeOf quietly queueAfter countersAfter refreshedOf tickOf emptyOf acceptOf removeOf without getOf fed startLog last openRow legalOf carriedOf requirements R7 R12-open R13-open R14 marksOf rowOf
+unfolding configOf geometryOf cellOf addressOf asked act rd wrt pre still ready opened written control runs played logged queue start turnOf tickedOf currentOf choiceOf rulesOf planOf refreshPlan cycleLeft latencyPlan takenPlan accessPlan transferPlan writePlan readPlan rest tries outcomeOf quietly queueAfter countersAfter refreshedOf tickOf emptyOf kindIn requestIn requestAt storedOf acceptOf shiftedOf removeOf getOf fed startLog last openRow legalOf carriedOf requirements R7 R12-open R13-open R14 marksOf rowOf
 runs-played = refl
 
 -- The initialisation of E1's machine, in which each command is legal in the first slot that tries it: E5's slots 1 to 227, and then service.

@@ -5,6 +5,7 @@ use mathlib.Core.Bool.{Bool, true, false, _&&_}
 use lib.Dec.{leb, ltb}
 use Rattle.config.specs.declared.Config.{Config}
 use Rattle.plan.specs.declared.Action.{Action}
+use Rattle.plan.specs.declared.Control.{Control}
 use Rattle.plan.specs.declared.Action.the-variants.{
   PowerUp,
   InitPrecharge,
@@ -19,6 +20,10 @@ use Rattle.plan.specs.declared.Action.the-variants.{
   Refresh,
   RefreshCycle,
 }
+
+-- an action under way, and whether a Must run is on
+abbrev pub controlOf : Action → Bool → Control
+controlOf action must = record { action = action; must = must }
 
 -- no action is under way: a choice is due
 abbrev pub isIdle : Action → Bool

@@ -32,7 +32,13 @@ use Rattle.plan.specs.declared.Action.the-variants.{
   RefreshCycle,
 }
 use Rattle.plan.specs.declared.Report.{Report}
-use Rattle.plan.specs.declared.Outcome.{Outcome}
+
+-- what follows a slot: the next action, the report, whether the request under way leaves the queue, and whether the backlog falls
+pub record Outcome : Type 0 where
+  pub action : Action
+  pub report : Report
+  pub leaves : Bool
+  pub refreshes : Bool
 
 pub record Plan : Type 0 where
   pub command : Command

@@ -11,10 +11,9 @@ use Rattle.refresh.specs.declared.Counters.{Counters}
 use Rattle.refresh.specs.Counting.{tickOf}
 use Rattle.plan.specs.declared.Action.{Action}
 use Rattle.plan.specs.declared.Control.{Control}
-use Rattle.plan.specs.declared.Outcome.{Outcome}
 use Rattle.plan.specs.declared.Report.{Report}
-use Rattle.plan.specs.Actions.{inService, underWay}
-use Rattle.plan.specs.Plan.{Plan, outcomeOf, planOf, queueAfter, countersAfter}
+use Rattle.plan.specs.Actions.{controlOf, inService, underWay}
+use Rattle.plan.specs.Plan.{Outcome, Plan, outcomeOf, planOf, queueAfter, countersAfter}
 use Rattle.plan.specs.Choice.{Choice, currentOf}
 
 -- what a slot gives, but for the past after it
@@ -42,6 +41,6 @@ turnOf c v n control q bus =
       command = carriedOf c v (plan .command);
       report = o .report;
       counters = countersAfter ticked (o .refreshes);
-      control = record { action = o .action; must = x .control .must };
+      control = controlOf (o .action) (x .control .must);
       queue = queueAfter (x .queue) at (o .leaves);
     }

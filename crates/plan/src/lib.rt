@@ -1,14 +1,14 @@
 // Owns the rules of a slot (document 01, "Start" and "A service slot"): the action under way and when it is sound, the plan of its next slot, rules 1
 // to 6 of the choice, and what a report says. It has no code; `actions`, `choice`, `service` and `turn` have it.
 
-// The action under way. The first five are the initialisation.
+// The action under way. The first five are the initialisation. All counts and places are of one width, so that an action has no padding.
 pub enum Action {
     // So many slots of NOP are left of the pause.
-    PowerUp(u32),
+    PowerUp(u16),
     // The initialisation's DEAC comes next.
     InitPrecharge,
     // So many of its REFR are left.
-    InitRefresh(u8),
+    InitRefresh(u16),
     // Its MRS comes next.
     InitMode,
     // One last NOP.
@@ -16,9 +16,9 @@ pub enum Action {
     // No action: a choice is made in the next slot.
     Idle,
     // The request at this place of the queue: PRE, ACT, or READ or WRT comes next.
-    Access(usize),
+    Access(u16),
     // The READ for the request at this place was sent: its halfword is on the bus in so many slots.
-    CasLatency(usize, u8),
+    CasLatency(u16, u16),
     // The slot after a read's halfword.
     Turnaround,
     // A refresh: its DEAC comes next.
@@ -26,7 +26,7 @@ pub enum Action {
     // A refresh: its REFR comes next.
     Refresh,
     // So many slots are left of a refresh.
-    RefreshCycle(u8),
+    RefreshCycle(u16),
 }
 
 // The action under way, and is a Must run on?
@@ -40,12 +40,4 @@ pub enum Report {
     Nothing,
     Read(u32, u16),
     Write(u32),
-}
-
-// What follows a slot: the next action, the report, whether the request under way leaves the queue, and whether the backlog falls.
-pub struct Outcome {
-    pub action: Action,
-    pub report: Report,
-    pub leaves: bool,
-    pub refreshes: bool,
 }

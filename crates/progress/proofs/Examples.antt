@@ -10,8 +10,8 @@ use Rattle.address.specs.Map.{capacityOf, cellOf, holdsOf, addressNumberOf}
 use Rattle.device.specs.View.{allClosed, marksOf, rowOf}
 use Rattle.device.specs.Rules.{R7, R12-open, R13-open, R14, requirements, legalOf, carriedOf}
 use Rattle.ages.specs.declared.Past.{Past}
-use Rattle.ages.specs.Ages.{firstRow, openedOf, rowIn, rowAt, agedOf, agesAfter, sentOf}
-use Rattle.queue.specs.Places.{emptyOf, acceptOf, removeOf, getOf, without}
+use Rattle.ages.specs.Ages.{pastOf, openIn, rowIn, openRows, agedOf, agesAfter, sentOf}
+use Rattle.queue.specs.Places.{kindIn, requestIn, requestAt, getOf, emptyOf, storedOf, acceptOf, shiftedOf, removeOf}
 use Rattle.queue.specs.Oldest.{blockedOf, readyOf, oldestOf}
 use Rattle.refresh.specs.Counting as counting
 use Rattle.refresh.specs.Urgency.{levelOf}
@@ -52,7 +52,7 @@ slow =
 
 -- every command was sent in the slot that is just over, which no device allows; banks are open that the device does not have
 abbrev rushed : Past
-rushed = record { ages = replicate 16 0; opened = replicate 4 true; rows = replicate 4 firstRow; programmed = true }
+rushed = pastOf (replicate 16 0) (replicate 4 true) (replicate 4 0) true
 
 abbrev made : Action → ℕ → Machine
 made a backlog = machineWith true slow rushed (record { interval = 1; backlog = backlog }) (record { action = a; must = false }) emptyOf 0
@@ -75,7 +75,7 @@ record Examples : Type 0 where
   bounds : startWithin slow ∷ choiceWithin slow ∷ workedOffWithin slow ∷ [] ≡ 1963 ∷ 68 ∷ 680 ∷ []
 
 examples : Examples
-unfolding startWithin firstService choiceWithin workedOffWithin recordNumberBy roomNumberOf requestNumberBy queuedRequest enqueuedOf requestOf refusedWith slotOf stepOf configAccepted shapedOf distancesOf spannedOf stateBy fitBy soundBy soundAction capacityOf cellOf holdsOf addressNumberOf allClosed marksOf rowOf legalOf requirements R7 R12-open R13-open R14 openedOf rowIn rowAt agedOf agesAfter sentOf carriedOf emptyOf acceptOf removeOf getOf without blockedOf readyOf oldestOf counting.tickOf counting.refreshedOf counting.soundCounters levelOf plan.quietly plan.outcomeOf plan.tries plan.rest plan.afterPause plan.afterInitRefresh plan.readPlan plan.writePlan plan.transferPlan plan.accessPlan plan.takenPlan plan.latencyPlan plan.cycleLeft plan.refreshPlan plan.planOf plan.queueAfter plan.countersAfter choice.rulesOf choice.choiceOf choice.currentOf tickedOf turnOf
+unfolding startWithin firstService choiceWithin workedOffWithin recordNumberBy roomNumberOf requestNumberBy queuedRequest enqueuedOf requestOf refusedWith slotOf stepOf configAccepted shapedOf distancesOf spannedOf stateBy fitBy soundBy soundAction capacityOf cellOf holdsOf addressNumberOf allClosed marksOf rowOf legalOf requirements R7 R12-open R13-open R14 openIn rowIn openRows agedOf agesAfter sentOf carriedOf emptyOf acceptOf storedOf removeOf shiftedOf getOf requestAt requestIn kindIn blockedOf readyOf oldestOf counting.tickOf counting.refreshedOf counting.soundCounters levelOf plan.quietly plan.outcomeOf plan.tries plan.rest plan.afterPause plan.afterInitRefresh plan.readPlan plan.writePlan plan.transferPlan plan.accessPlan plan.takenPlan plan.latencyPlan plan.cycleLeft plan.refreshPlan plan.planOf plan.queueAfter plan.countersAfter choice.rulesOf choice.choiceOf choice.currentOf tickedOf turnOf
 examples =
     record {
       sound = (refl, refl, refl);

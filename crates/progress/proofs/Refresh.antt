@@ -6,8 +6,7 @@ use mathlib.Core.Bool.{Bool, true, false, cond, true≢false, false≢true}
 use native.Mathlib.Omega.{arith}
 use native.Mathlib.Nat.{suc-mul}
 use native.Mathlib.Decide.{ℕ-discrete}
-use lib.Dec.{leb, ltb}
-use lib.ListN.{length}
+use lib.Dec.{leb}
 use borrow.Author.Tests.{leb-false}
 use Rattle.config.specs.declared.Config.{Config}
 use Rattle.config.specs.Accepted.{Accepted}
@@ -18,7 +17,7 @@ use Rattle.ages.specs.declared.Past.{Past}
 use Rattle.ages.specs.Ages.{rowAt, sentOf}
 use Rattle.queue.specs.declared.Queue.{Queue}
 use Rattle.queue.specs.declared.Request.{Request}
-use Rattle.queue.specs.Places.{heldOf, removeOf}
+use Rattle.queue.specs.Places.{removeOf}
 use Rattle.queue.specs.Oldest.{oldestOf}
 use Rattle.refresh.specs.declared.Counters.{Counters}
 use Rattle.refresh.specs.declared.Level.{Level}
@@ -182,5 +181,5 @@ pub empty-stays : (q : Queue) (at : ℕ) (leaves : Bool) → q .count ≡ 0 → 
 unfolding queueAfter removeOf
 empty-stays q at leaves e =
     if-both (λ (x : Queue). x .count ≡ 0) leaves
-    (λ l. if-both (λ (x : Queue). x .count ≡ 0) (ltb at (length (heldOf q))) (λ t. omega arith) (λ t. e))
+    (λ l. omega arith)
     (λ l. e)

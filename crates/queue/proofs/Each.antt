@@ -4,8 +4,8 @@ use mathlib.Core.List.{List, _++_}
 use native.Mathlib.Nat.{not-suc-le-zero, le-of-suc-le-suc}
 use lib.ListN.{length, getD}
 use Rattle.queue.specs.declared.Request.{Request}
-use Rattle.queue.specs.Places.{noRequest, without}
-use Rattle.queue.proofs.Order.{Each, none, more}
+use Rattle.queue.specs.Places.{noRequest}
+use Rattle.queue.proofs.Order.{Each, none, more, without}
 
 module _ {P : Request → Type 0} where
   pub each-append : {xs ys : List Request} → Each P xs → Each P ys → Each P (xs ++ ys)

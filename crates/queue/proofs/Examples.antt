@@ -5,15 +5,16 @@ use mathlib.Core.Bool.{true, false, cond}
 use mathlib.Core.List.{List, [], _∷_, _++_, map}
 use native.Mathlib.Omega.{arith}
 use lib.Dec.{eqb}
+use lib.ListN.{replicate}
 use Rattle.queue.specs.declared.Kind.{Kind}
 use Rattle.queue.specs.declared.Kind.the-variants.{Read, Write}
 use Rattle.queue.specs.declared.Found.{Found}
 use Rattle.queue.specs.declared.Found.the-variants.{At, Nothing}
 use Rattle.queue.specs.declared.Request.{Request}
 use Rattle.queue.specs.declared.Queue.{Queue}
-use Rattle.queue.specs.Places.{noRequest, requestFor, without, emptyOf, acceptOf, removeOf, getOf}
+use Rattle.queue.specs.Places.{noRequest, requestFor, kindIn, requestIn, requestAt, queueOf, emptyOf, storedOf, acceptOf, shiftedOf, removeOf, getOf}
 use Rattle.queue.specs.Oldest.{blockedOf, readyOf, oldestOf}
-use Rattle.queue.proofs.Order.{Rising, end, next}
+use Rattle.queue.proofs.Order.{Rising, end, next, without}
 use Rattle.queue.proofs.Consistent.{applied, Consistent, same, then}
 
 -- a request of a kind at an address, with a number and a halfword
@@ -77,9 +78,14 @@ nth n = ask n Write 0 n
 abbrev eight : List Request
 eight = nth 1 ∷ nth 2 ∷ nth 3 ∷ nth 4 ∷ nth 5 ∷ nth 6 ∷ nth 7 ∷ nth 8 ∷ []
 
--- a full queue, to which a ninth request is nothing new
-full-example : accepted (nth 1 ∷ nth 2 ∷ nth 3 ∷ nth 4 ∷ nth 5 ∷ nth 6 ∷ nth 7 ∷ nth 8 ∷ nth 9 ∷ []) ≡ record { places = eight; count = 8 }
-unfolding accepted emptyOf acceptOf
+-- a full queue, to which a ninth request is nothing new: the numbers, the addresses, the halfwords of writes
+full-example :
+    accepted (nth 1 ∷ nth 2 ∷ nth 3 ∷ nth 4 ∷ nth 5 ∷ nth 6 ∷ nth 7 ∷ nth 8 ∷ nth 9 ∷ [])
+    ≡ queueOf
+    ((1 ∷ 2 ∷ 3 ∷ 4 ∷ 5 ∷ 6 ∷ 7 ∷ 8 ∷ [])
+    ++ (replicate 8 0 ++ (65537 ∷ 65538 ∷ 65539 ∷ 65540 ∷ 65541 ∷ 65542 ∷ 65543 ∷ 65544 ∷ [])))
+    8
+unfolding accepted emptyOf storedOf acceptOf
 full-example = refl
 
 -- removal in the middle, of the last one, of a full queue's first, and where none is queued
@@ -87,20 +93,30 @@ remove-examples :
     removeOf (accepted (nth 1 ∷ nth 2 ∷ nth 3 ∷ [])) 1
     ∷ removeOf (accepted (nth 1 ∷ nth 2 ∷ nth 3 ∷ [])) 2
     ∷ removeOf (accepted eight) 0
-    ∷ removeOf (accepted (nth 1 ∷ [])) 1
+    ∷ removeOf (accepted []) 0
     ∷ []
     ≡ accepted (nth 1 ∷ nth 3 ∷ [])
     ∷ accepted (nth 1 ∷ nth 2 ∷ [])
     ∷ accepted (nth 2 ∷ nth 3 ∷ nth 4 ∷ nth 5 ∷ nth 6 ∷ nth 7 ∷ nth 8 ∷ [])
-    ∷ accepted (nth 1 ∷ [])
+    ∷ accepted []
     ∷ []
-unfolding accepted emptyOf acceptOf removeOf without
+unfolding accepted emptyOf storedOf acceptOf shiftedOf removeOf
 remove-examples = refl
 
--- a queued request, an unused place, and a place that there isn't
-get-examples : map (getOf (accepted (nth 1 ∷ nth 2 ∷ []))) (1 ∷ 2 ∷ 8 ∷ []) ≡ nth 2 ∷ noRequest ∷ noRequest ∷ []
-unfolding accepted emptyOf acceptOf getOf
+-- at a place where none is queued the youngest is lost
+beyond-example : removeOf (accepted (nth 1 ∷ nth 2 ∷ [])) 5 ≡ queueOf (accepted (nth 1 ∷ nth 2 ∷ []) .places) 1
+unfolding accepted emptyOf acceptOf storedOf removeOf shiftedOf
+beyond-example = refl
+
+-- a read, a write, an unused place, and a place that there isn't
+get-examples : map (getOf (accepted (ask 1 Read 2 3 ∷ ask 4 Write 6 65535 ∷ []))) (0 ∷ 1 ∷ 2 ∷ 8 ∷ []) ≡ ask 1 Read 2 3 ∷ ask 4 Write 6 65535 ∷ noRequest ∷ noRequest ∷ []
+unfolding accepted emptyOf storedOf acceptOf kindIn requestIn requestAt getOf
 get-examples = refl
+
+-- the third of four requests taken out of the list
+without-example : without 2 (nth 1 ∷ nth 2 ∷ nth 3 ∷ nth 4 ∷ []) ≡ nth 1 ∷ nth 2 ∷ nth 4 ∷ []
+unfolding without
+without-example = refl
 
 -- a memory that holds each address at itself, around the address of a write of 7 and of a read
 served-examples : map (applied (λ a. a) (ask 1 Write 4 7)) (2 ∷ 4 ∷ 6 ∷ []) ++ map (applied (λ a. a) (ask 1 Read 4 7)) (2 ∷ 4 ∷ 6 ∷ [])

@@ -1,4 +1,5 @@
 -- Laws of the queue's definitions.
+pub mod Array
 pub mod Walks
 pub mod Order
 pub mod Each

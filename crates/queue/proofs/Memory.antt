@@ -10,9 +10,9 @@ use lib.ListN.{getD, drop}
 use Rattle.queue.specs.declared.Kind.{Kind}
 use Rattle.queue.specs.declared.Kind.the-variants.{Read, Write}
 use Rattle.queue.specs.declared.Request.{Request}
-use Rattle.queue.specs.Places.{noRequest, without}
+use Rattle.queue.specs.Places.{noRequest}
 use Rattle.address.specs.Map.{blockOf}
-use Rattle.queue.proofs.Order.{Each, none, more, Free, Servable}
+use Rattle.queue.proofs.Order.{Each, none, more, Free, Servable, without}
 use Rattle.queue.specs.Memory.{memoryAfter}
 use Rattle.queue.proofs.Consistent.{applied, ReadsRight, Consistent, same, then}
 use Rattle.queue.proofs.Oldest.{servable-split}

@@ -6,8 +6,8 @@ use native.Mathlib.Nat.{le-of-suc-le-suc, le-refl, le-of-lt, le-trans, lt-of-le-
 use native.Mathlib.Omega.{arith}
 use lib.ListN.{length, getD}
 use Rattle.queue.specs.declared.Request.{Request}
-use Rattle.queue.specs.Places.{noRequest, without}
-use Rattle.queue.proofs.Order.{Each, none, more, Rising, end, next}
+use Rattle.queue.specs.Places.{noRequest}
+use Rattle.queue.proofs.Order.{Each, none, more, Rising, end, next, without}
 use Rattle.queue.proofs.Each.{each-at, each-map}
 
 -- nothing queued, nothing accepted

@@ -1,14 +1,18 @@
 -- What the order of the queued requests says: blocked or free, and the numbers (document 01, "A service slot").
-use Prim.Native.Nat.{ℕ, _≤_, _<_}
+use Prim.Native.Nat.{ℕ, suc, _≤_, _<_}
 use mathlib.Core.Path.{_≡_}
 use mathlib.Core.Bool.{true}
-use mathlib.Core.List.{List, [], _∷_}
-use lib.ListN.{length, getD, take}
+use mathlib.Core.List.{List, [], _∷_, _++_}
+use lib.ListN.{length, getD, take, drop}
 use Rattle.queue.specs.declared.Kind.{Kind}
 use Rattle.queue.specs.declared.Request.{Request}
 use Rattle.queue.specs.Places.{noRequest}
 use Rattle.queue.specs.Oldest.{blockedOf}
 use Rattle.address.specs.Map.{blockOf}
+
+-- a list without its element at a place
+unfoldable pub without : ℕ → List Request → List Request
+without at l = take at l ++ drop (suc at) l
 
 -- a property of each element
 pub data Each (P : Request → Type 0) : List Request → Type 0 where

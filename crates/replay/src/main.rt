@@ -71,12 +71,12 @@ fn backlog(machine: Machine) -> Played {
 }
 
 fn cell(machine: Machine, cfg: u32, row: u32, address: u32) -> Played {
-    let text = Answer::Cell(address::to_cell(cfg, row, address)).line();
+    let text = Answer::Cell(standalone::to_cell(cfg, row, address)).line();
     Played { machine, text }
 }
 
 fn address_of(machine: Machine, cfg: u32, row: u32, cell: Cell) -> Played {
-    let text = Answer::Address(address::to_address(cfg, row, cell)).line();
+    let text = Answer::Address(standalone::to_address(cfg, row, cell)).line();
     Played { machine, text }
 }
 

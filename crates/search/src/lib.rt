@@ -1,13 +1,11 @@
 // Owns the search for the oldest unblocked read and write (document 01, "A service slot", rules 2 and 4; `queue` has the definitions).
 use queue::Found;
 use queue::Kind;
-use queue::Queue;
-use queue::Request;
-ghost use Rattle.queue.specs.Places.{heldOf};
-ghost use Rattle.queue.specs.Oldest.{sameKind, sharedBy, blockedOf, readyOf, oldestOf};
-ghost use lib.ListN.{length, take};
+ghost use Rattle.queue.specs.Places.{requestsIn, queueOf, heldOf};
+ghost use Rattle.queue.specs.Oldest.{sameKind, sharedBy, readyOf, oldestOf};
+ghost use lib.ListN.{take};
 ghost use mathlib.Core.Path.{_≡_};
-ghost use Prim.Native.Nat.{_≤_, _<_};
+ghost use Prim.Native.Nat.{ℕ, _≤_, _<_};
 
 fn is_kind(a: Kind, b: Kind) -> bool
     ensures { λ r. ⌜ r ≡ sameKind a b ⌝ }
@@ -25,14 +23,13 @@ fn is_kind(a: Kind, b: Kind) -> bool
 }
 
 // Does one of the first `end` places have the block `wanted`?
-fn shared(places: [Request; 8], end: usize, wanted: u32) -> bool
+fn shared(places: &[u32; 24], end: usize, wanted: u32) -> bool
     requires { ⌜ end ≤ 8 ⌝ }
-    ensures { λ r. ⌜ r ≡ sharedBy wanted (take end places) ⌝ }
+    ensures { λ r. ⌜ r ≡ sharedBy wanted (take end (requestsIn (now (places .entry)))) ⌝ }
 {
     let mut i = 0;
     while i < end {
-        let r = places[i];
-        if address::block(r.address) == wanted {
+        if address::block(places::address_at(places, i)) == wanted {
             return true;
         }
         i += 1;
@@ -40,29 +37,13 @@ fn shared(places: [Request; 8], end: usize, wanted: u32) -> bool
     false
 }
 
-// Has an older queued request the same block?
-fn blocked(queue: Queue, at: usize) -> bool
-    ensures { λ r. ⌜ r ≡ blockedOf (heldOf queue) at ⌝ }
+// Is the request at a place an unblocked one of this kind, where it is one of those queued?
+fn ready(places: &[u32; 24], kind: Kind, at: usize) -> bool
+    requires { ⌜ at < 8 ⌝ }
+    ensures { λ r. ⌜ ((count : ℕ) → at < count → r ≡ readyOf kind (heldOf (queueOf (now (places .entry)) count)) at) ⌝ }
 {
-    let n = queue.held();
-    if n <= at {
-        return false;
-    }
-    let places = queue.places;
-    let r = places[at];
-    shared(places, at, address::block(r.address))
-}
-
-// Is the request at a place an unblocked one of this kind?
-fn ready(queue: Queue, kind: Kind, at: usize) -> bool
-    requires { ⌜ at < length (heldOf queue) ⌝ }
-    ensures { λ r. ⌜ r ≡ readyOf kind (heldOf queue) at ⌝ }
-{
-    let places = queue.places;
-    let r = places[at];
-    let k = r.kind;
-    if is_kind(k, kind) {
-        if blocked(queue, at) {
+    if is_kind(places::kind_at(places, at), kind) {
+        if shared(places, at, address::block(places::address_at(places, at))) {
             return false;
         }
         return true;
@@ -70,15 +51,15 @@ fn ready(queue: Queue, kind: Kind, at: usize) -> bool
     false
 }
 
-// The place of the oldest unblocked request of a kind (document 01, rules 2 and 4).
-pub fn oldest(queue: Queue, kind: Kind) -> Found
-    ensures { λ r. ⌜ r ≡ oldestOf kind (heldOf queue) ⌝ }
+// The place of the oldest unblocked request of a kind, of `count` queued (document 01, rules 2 and 4).
+pub fn oldest(places: &[u32; 24], count: u32, kind: Kind) -> Found
+    ensures { λ r. ⌜ r ≡ oldestOf kind (heldOf (queueOf (now (places .entry)) count)) ⌝ }
 {
-    let n = queue.held();
-    let mut i = 0;
+    let n = places::held(count) as usize;
+    let mut i: usize = 0;
     while i < n {
-        if ready(queue, kind, i) {
-            return Found::At(i);
+        if ready(places, kind, i) {
+            return Found::At(i as u16);
         }
         i += 1;
     }

@@ -14,11 +14,11 @@ use Rattle.command.specs.declared.Command.the-variants.{Nop, Deac, Refr}
 use Rattle.device.specs.View.{allClosed, marksOf, rowOf}
 use Rattle.device.specs.Rules.{R7, R12-open, R13-open, R14, requirements, legalOf, carriedOf}
 use Rattle.ages.specs.declared.Past.{Past}
-use Rattle.ages.specs.Ages.{cap, firstRow, freshOf, openedOf, rowIn, rowAt, agedOf, agesAfter, sentOf}
+use Rattle.ages.specs.Ages.{cap, pastOf, freshOf, openIn, rowIn, openRows, agedOf, agesAfter, sentOf}
 use Rattle.queue.specs.declared.Kind.{Kind}
 use Rattle.queue.specs.declared.Request.{Request}
 use Rattle.queue.specs.declared.Queue.{Queue}
-use Rattle.queue.specs.Places.{requestFor, emptyOf, acceptOf, removeOf, getOf, without}
+use Rattle.queue.specs.Places.{requestFor, kindIn, requestIn, requestAt, queueOf, getOf, emptyOf, storedOf, acceptOf, shiftedOf, removeOf}
 use Rattle.queue.specs.Oldest.{blockedOf, readyOf, oldestOf}
 use Rattle.refresh.specs.declared.Counters.{Counters}
 use Rattle.refresh.specs.Counting as counting
@@ -107,8 +107,7 @@ cycling =
 
 -- the device after its initialisation, with row 1 open, or with none
 abbrev known : Bool → Past
-known opened =
-    record { ages = replicate 16 cap; opened = opened ∷ replicate 3 false; rows = record { 0 = 1 } ∷ replicate 3 firstRow; programmed = true }
+known opened = pastOf (replicate 16 cap) (opened ∷ replicate 3 false) (1 ∷ replicate 3 0) true
 
 abbrev counted : ℕ → ℕ → Counters
 counted i b = record { interval = i; backlog = b }
@@ -208,7 +207,7 @@ unsound =
     ∷ at e1 (counted 0 0) emptyOf Idle
     ∷ at e1 (counted 28 0) emptyOf Idle
     ∷ at e1 (counted 27 16) emptyOf Idle
-    ∷ at e1 (counted 27 0) (record { places = replicate 8 (ask Kind.Read 1); count = 9 }) Idle
+    ∷ at e1 (counted 27 0) (queueOf (replicate 24 0) 9) Idle
     ∷ at e1 (counted 27 0) (filled 2) (Access 2)
     ∷ at e1 (counted 27 0) (filled 2) (CasLatency 2 1)
     ∷ []
@@ -343,5 +342,5 @@ record Examples : Type 0 where
       ≡ record { number = 9; backlog = 0 } ∷ record { number = 8; backlog = 0 } ∷ record { number = 0; backlog = 0 } ∷ record { number = 0; backlog = 15 } ∷ []
 
 examples : Examples
-unfolding sound unsound refusals slots configuredBy configureOf recordNumberBy roomNumberOf requestNumberBy queuedRequest enqueuedOf requestOf refusedWith slotOf backlogOf blankOf machineOf stepOf configAccepted shapedOf distancesOf spannedOf stateBy fitBy soundBy soundAction reservedMap reservedAll offeredOf geometryOf configOf checkedOf settingOf capacityOf cellOf holdsOf addressNumberOf allClosed marksOf rowOf legalOf requirements R7 R12-open R13-open R14 freshOf openedOf rowIn rowAt agedOf agesAfter sentOf carriedOf emptyOf acceptOf removeOf getOf without blockedOf readyOf oldestOf counting.startOf counting.tickOf counting.refreshedOf counting.soundCounters levelOf plan.quietly plan.outcomeOf plan.tries plan.rest plan.afterPause plan.afterInitRefresh plan.readPlan plan.writePlan plan.transferPlan plan.accessPlan plan.takenPlan plan.latencyPlan plan.cycleLeft plan.refreshPlan plan.planOf plan.queueAfter plan.countersAfter choice.rulesOf choice.choiceOf choice.currentOf tickedOf turnOf
+unfolding sound unsound refusals slots configuredBy configureOf recordNumberBy roomNumberOf requestNumberBy queuedRequest enqueuedOf requestOf refusedWith slotOf backlogOf blankOf machineOf stepOf configAccepted shapedOf distancesOf spannedOf stateBy fitBy soundBy soundAction reservedMap reservedAll offeredOf geometryOf configOf checkedOf settingOf capacityOf cellOf holdsOf addressNumberOf allClosed marksOf rowOf legalOf requirements R7 R12-open R13-open R14 freshOf openIn rowIn openRows agedOf agesAfter sentOf carriedOf emptyOf acceptOf storedOf removeOf shiftedOf getOf requestAt requestIn kindIn blockedOf readyOf oldestOf counting.startOf counting.tickOf counting.refreshedOf counting.soundCounters levelOf plan.quietly plan.outcomeOf plan.tries plan.rest plan.afterPause plan.afterInitRefresh plan.readPlan plan.writePlan plan.transferPlan plan.accessPlan plan.takenPlan plan.latencyPlan plan.cycleLeft plan.refreshPlan plan.planOf plan.queueAfter plan.countersAfter choice.rulesOf choice.choiceOf choice.currentOf tickedOf turnOf
 examples = record { soundness = refl; configured = refl; reads = refl; writes = refl; room = refl; last = refl; steps = refl; readings = refl }

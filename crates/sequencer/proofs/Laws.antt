@@ -1,21 +1,18 @@
 -- What the number 0 says of a machine and of a request (the laws of `numbers`, on machines), and a slot by what the slot of the parts gives.
 use Prim.Native.Nat.{ℕ}
-use mathlib.Core.Path.{_≡_, refl, sym, _∙_, ap}
-use mathlib.Core.Bool.{true, false}
-use Rattle.queue.specs.declared.Queue.{Queue}
-use Rattle.queue.specs.Places.{removeOf}
-use Rattle.plan.specs.Plan.{queueAfter}
+use mathlib.Core.Path.{_≡_, refl, subst}
+use mathlib.Core.Bool.{Bool, true, false, cond}
+use lib.Dec.{eqb}
+use borrow.Author.Tests.{eqb-true}
 use Rattle.numbers.specs.Sound.{soundBy}
 use Rattle.numbers.proofs.Laws as parts
-use Rattle.turn.specs.declared.Turned.{Turned}
-use Rattle.turn.specs.Parts.{givenOf, turnedOf}
-use Rattle.turn.proofs.Laws.{turn-is}
+use Rattle.turn.specs.Parts.{Parts, steppedOf, keptOf, turnedOf}
 use Rattle.sequencer.specs.declared.Machine.{Machine}
 use Rattle.sequencer.specs.declared.Slot.{Slot}
 use Rattle.sequencer.specs.Machine as machine
 use Rattle.sequencer.specs.Machine.{machineWith, stepOf}
 use Rattle.sequencer.specs.Sound.{soundOf}
-use Rattle.sequencer.specs.Calls.{recordNumberOf, requestNumberOf, slotOf}
+use Rattle.sequencer.specs.Calls.{recordNumberOf, requestNumberOf, refusedWith, slotOf}
 
 abbrev pub SoundFacts : Machine → Type 0
 SoundFacts m = parts.SoundFacts (m .config) (m .past) (m .counters) (m .control) (m .queue .count)
@@ -33,35 +30,26 @@ sound-blank = refl
 pub request-facts : (m : Machine) (address : ℕ) → requestNumberOf m address ≡ 0 → RequestFacts m address
 request-facts m address h = parts.request-facts (m .configured) (m .config) (m .past) (m .counters) (m .control) (m .queue .count) (m .accepted) address h
 
--- A slot of a record with the number 0, by what the slot of its parts gives.
+-- A slot by its number and by what the slot of the parts gives.
 
-abbrev afterTurn : Machine → Turned → Queue → Slot
-afterTurn m t q =
+abbrev slotWith : Machine → ℕ → Parts → Slot
+slotWith m number t =
     record {
-      machine = machineWith (m .configured) (m .config) (t .past) (t .counters) (t .control) q (m .accepted);
-      number = 0;
+      machine = machineWith (m .configured) (m .config) (t .past) (t .counters) (t .control) (t .queue) (m .accepted);
+      number = number;
       command = t .command;
       report = t .report;
     }
 
-module _ (m : Machine) (bus : ℕ) where
-  abbrev turned : Turned
-  turned = turnedOf (m .config) (m .past) (m .counters) (m .control) (m .queue) bus
-
-  step-parts : stepOf m bus ≡ afterTurn m turned (queueAfter (m .queue) (turned .at) (turned .leaves))
-  unfolding stepOf turnedOf givenOf
-  step-parts = rw (turn-is (m .config) (m .past) (m .counters) (m .control) (m .queue) bus)
-
-  module _ (z : recordNumberOf m ≡ 0) {t : Turned} (e : t ≡ turned) where
-    slot-parts : slotOf m bus ≡ afterTurn m t (queueAfter (m .queue) (t .at) (t .leaves))
-    unfolding slotOf
-    slot-parts = rw (z, e) step-parts
-
-    -- the request under way leaves, or nobody does
-    pub slot-leaves : t .leaves ≡ true → {q : Queue} → q ≡ removeOf (m .queue) (t .at) → afterTurn m t q ≡ slotOf m bus
-    unfolding queueAfter
-    slot-leaves l r = rw r (sym (slot-parts ∙ ap (λ b. afterTurn m t (queueAfter (m .queue) (t .at) b)) l))
-
-    pub slot-stays : t .leaves ≡ false → afterTurn m t (m .queue) ≡ slotOf m bus
-    unfolding queueAfter
-    slot-stays l = sym (slot-parts ∙ ap (λ b. afterTurn m t (queueAfter (m .queue) (t .at) b)) l)
+pub slot-is : (m : Machine) (bus : ℕ) {number : ℕ} {t : Parts} → number ≡ recordNumberOf m
+    → t ≡ turnedOf number (m .config) (m .past) (m .counters) (m .control) (m .queue) bus → slotWith m number t ≡ slotOf m bus
+unfolding slotOf stepOf refusedWith turnedOf steppedOf
+slot-is m bus {number} {t} e f =
+    rw f (subst (λ (n : ℕ). slotWith m number (turnedOf number (m .config) (m .past) (m .counters) (m .control) (m .queue) bus) ≡ cond (eqb n 0) (stepOf m bus) (refusedWith m n)) e
+    (by-test (eqb number 0) refl))
+  where
+    by-test : (b : Bool) → eqb number 0 ≡ b
+        → slotWith m number (cond b (steppedOf (m .config) (m .past) (m .counters) (m .control) (m .queue) bus) (keptOf (m .past) (m .counters) (m .control) (m .queue)))
+        ≡ cond b (stepOf m bus) (refusedWith m number)
+    by-test true h = rw (eqb-true number 0 h)
+    by-test false h = refl

@@ -11,7 +11,7 @@ use Rattle.refresh.specs.declared.Counters.{Counters}
 use Rattle.refresh.specs.Counting.{startOf}
 use Rattle.plan.specs.declared.Control.{Control}
 use Rattle.plan.specs.declared.Action.the-variants.{Idle}
-use Rattle.plan.specs.Actions.{firstAction}
+use Rattle.plan.specs.Actions.{controlOf, firstAction}
 use Rattle.plan.specs.Slot.{Turn, turnOf}
 use Rattle.sequencer.specs.declared.Machine.{Machine}
 use Rattle.sequencer.specs.declared.Slot.{Slot}
@@ -31,11 +31,11 @@ machineWith configured config past counters control queue accepted =
 
 -- the blank machine
 unfoldable pub blankOf : Machine
-blankOf = machineWith false noConfig freshOf (startOf 0) (record { action = Idle; must = false }) emptyOf 0
+blankOf = machineWith false noConfig freshOf (startOf 0) (controlOf Idle false) emptyOf 0
 
 -- the machine that an accepted configuration gives
 unfoldable pub machineOf : Config → Machine
-machineOf c = machineWith true c freshOf (startOf (c .rr)) (record { action = firstAction c; must = false }) emptyOf 0
+machineOf c = machineWith true c freshOf (startOf (c .rr)) (controlOf (firstAction c) false) emptyOf 0
 
 -- one slot of a configured machine; `bus` is the halfword that the bus carries
 unfoldable pub stepOf : Machine → ℕ → Slot

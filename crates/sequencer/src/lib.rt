@@ -11,7 +11,7 @@ use queue::Queue;
 use queue::Request;
 use refresh::Counters;
 ghost use mathlib.Core.Path.{_≡_};
-ghost use Prim.Native.Nat.{_<_};
+ghost use Prim.Native.Nat.{_≤_, _<_};
 ghost use Rattle.numbers.specs.Numbers.{lastNumber};
 ghost use Rattle.sequencer.specs.Machine.{blankOf, machineOf};
 ghost use Rattle.sequencer.specs.Calls.{
@@ -23,7 +23,6 @@ ghost use Rattle.sequencer.specs.Calls.{
   requestOf,
   readRequestOf,
   writeRequestOf,
-  refusedWith,
   slotOf,
   backlogOf,
 };
@@ -35,9 +34,9 @@ pub struct Machine {
     pub config: Config,
     pub counters: Counters,
     pub control: Control,
+    pub configured: bool,
     // How many requests have been accepted.
     pub accepted: u32,
-    pub configured: bool,
 }
 
 // A number of document 01's table, and the machine that a configuration gives: the blank one where the number is not 0.
@@ -69,6 +68,7 @@ pub struct Reading {
 
 // The machine that an accepted configuration gives.
 fn started_with(config: Config) -> Machine
+    requires { ⌜ config .rr ≤ 8191 ⌝ }
     ensures { λ r. ⌜ r ≡ machineOf config ⌝ }
 {
     let past = ages::fresh();
@@ -78,7 +78,7 @@ fn started_with(config: Config) -> Machine
         action,
         must: false,
     };
-    let queue = Queue::empty();
+    let queue = places::empty();
     Machine {
         configured: true,
         config,
@@ -92,6 +92,7 @@ fn started_with(config: Config) -> Machine
 
 // The machine that a setting gives, the blank one where its number is not 0.
 fn configured_by(setting: Setting) -> Configured
+    requires { ⌜ (setting .number ≡ 0 → setting .config .rr ≤ 8191) ⌝ }
     ensures { λ r. ⌜ r ≡ configuredBy setting ⌝ }
 {
     if setting.number == 0 {
@@ -125,7 +126,7 @@ impl Machine {
             action: Action::Idle,
             must: false,
         };
-        let queue = Queue::empty();
+        let queue = places::empty();
         Machine {
             configured: false,
             config,
@@ -155,7 +156,9 @@ impl Machine {
         ensures { λ r. ⌜ r ≡ enqueuedOf self request ⌝ }
     {
         let before = self.queue;
-        let queue = before.accept(request);
+        let mut places = before.places;
+        let count = places::accept(&mut places, before.count, request);
+        let queue = Queue { places, count };
         let mut machine = self;
         machine.queue = queue;
         machine.accepted = request.number;
@@ -188,14 +191,18 @@ impl Machine {
     {
         let config = self.config;
         let past = self.past;
+        let opened = past.opened;
         let counters = self.counters;
         let control = self.control;
+        let action = control.action;
         let number = numbers::request_number(
             self.configured,
+            config::accepted(config),
             config,
-            past,
+            &opened,
+            past.programmed,
             counters,
-            control,
+            action,
             self.queue.count,
             self.accepted,
             address,
@@ -209,14 +216,18 @@ impl Machine {
     {
         let config = self.config;
         let past = self.past;
+        let opened = past.opened;
         let counters = self.counters;
         let control = self.control;
+        let action = control.action;
         let number = numbers::request_number(
             self.configured,
+            config::accepted(config),
             config,
-            past,
+            &opened,
+            past.programmed,
             counters,
-            control,
+            action,
             self.queue.count,
             self.accepted,
             address,
@@ -224,62 +235,76 @@ impl Machine {
         self.answered(number, Kind::Write, address, halfword)
     }
 
-    // A slot that is refused: a NOP that reports nothing.
-    fn refused(self, number: u8) -> Slot
-        ensures { λ r. ⌜ r ≡ refusedWith self number ⌝ }
-    {
-        let command = Command::Nop;
-        let report = Report::Nothing;
-        Slot {
-            machine: self,
-            number,
-            command,
-            report,
-        }
-    }
-
-    // One slot; `bus` is the halfword that the bus carries. The tests are those of `record_number`, in parts: so they compile to code in which the
-    // machine is not copied.
+    // One slot; `bus` is the halfword that the bus carries. The arrays are lent and changed in place; the machine is built once, at the end, for a refused
+    // slot too: an early return would copy it.
     pub fn slot(self, bus: u16) -> Slot
         ensures { λ r. ⌜ r ≡ slotOf self bus ⌝ }
     {
-        if !self.configured {
-            return self.refused(8);
-        }
         let config = self.config;
-        if !config::accepted(config) {
-            return self.refused(9);
-        }
         let past = self.past;
         let counters = self.counters;
         let control = self.control;
         let queue = self.queue;
-        if !numbers::state_sound(config, past, counters, control, queue.count) {
-            return self.refused(9);
-        }
-        let turned = turn::turn(config, past, counters, control, queue, bus);
-        let past = turned.past;
-        let counters = turned.counters;
-        let control = turned.control;
+        let mut ages = past.ages;
+        let mut opened = past.opened;
+        let mut rows = past.rows;
+        let mut programmed = past.programmed;
+        let mut places = queue.places;
+        let before = control.action;
+        let number = numbers::record_number(
+            self.configured,
+            config::accepted(config),
+            config,
+            &opened,
+            programmed,
+            counters,
+            before,
+            queue.count,
+        );
+        let turned = turn::turn(
+            number,
+            config,
+            &mut ages,
+            &mut opened,
+            &mut rows,
+            &mut programmed,
+            &mut places,
+            queue.count,
+            counters,
+            before,
+            control.must,
+            bus,
+        );
         let command = turned.command;
         let report = turned.report;
-        let mut machine = self;
-        machine.past = past;
-        machine.counters = counters;
-        machine.control = control;
-        if turned.leaves {
-            let left = queue.remove(turned.at);
-            machine.queue = left;
-            return Slot {
-                machine,
-                number: 0,
-                command,
-                report,
-            };
-        }
+        let action = turned.action;
+        let counters_after = turned.counters;
+        let past_after = Past {
+            ages,
+            opened,
+            rows,
+            programmed,
+        };
+        let control_after = Control {
+            action,
+            must: turned.must,
+        };
+        let queue_after = Queue {
+            places,
+            count: turned.count,
+        };
+        let machine = Machine {
+            queue: queue_after,
+            past: past_after,
+            config,
+            counters: counters_after,
+            control: control_after,
+            configured: self.configured,
+            accepted: self.accepted,
+        };
         Slot {
             machine,
-            number: 0,
+            number,
             command,
             report,
         }
@@ -291,14 +316,18 @@ impl Machine {
     {
         let config = self.config;
         let past = self.past;
+        let opened = past.opened;
         let counters = self.counters;
         let control = self.control;
+        let action = control.action;
         let number = numbers::record_number(
             self.configured,
+            config::accepted(config),
             config,
-            past,
+            &opened,
+            past.programmed,
             counters,
-            control,
+            action,
             self.queue.count,
         );
         if number != 0 {

@@ -1,22 +1,24 @@
 // Owns the code of a slot's plan (document 01, "Start" and "A service slot"; `plan` has the rules): the action's next command if it is legal,
-// otherwise NOP, and what follows.
+// otherwise NOP, and what follows. What the command starts is noted in the past at once.
+use address::Bank;
 use address::Cell;
-use ages::Past;
+use address::Row;
 use command::Command;
 use config::Config;
 use plan::Action;
-use plan::Outcome;
 use plan::Report;
 use queue::Kind;
 use queue::Request;
 use refresh::Counters;
+ghost use Prim.Native.Nat.{ℕ, _-_};
 ghost use mathlib.Core.Path.{_≡_};
-ghost use Prim.Native.Nat.{_-_};
+ghost use mathlib.Core.List.{List};
 ghost use Rattle.config.specs.Accepted.{Shaped};
-ghost use Rattle.ages.specs.Ages.{rowAt, byAges};
-ghost use Rattle.command.specs.declared.Command.the-variants.{Mrs};
-ghost use Rattle.plan.specs.declared.Action.the-variants.{InitMode, InitSettle};
-ghost use Rattle.queue.specs.Places.{cellFor};
+ghost use Rattle.ages.specs.Ages.{pastOf, openRows, byAges};
+ghost use Rattle.command.specs.declared.Command.the-variants.{Act, Pre, Deac, Refr, Mrs};
+ghost use Rattle.plan.specs.declared.Action.the-variants.{InitRefresh, InitMode, InitSettle, Access};
+ghost use Rattle.queue.specs.Places.{requestAt};
+ghost use Rattle.plan.specs.Actions.{underWay};
 ghost use Rattle.plan.specs.Plan.{
   tries,
   modeWord,
@@ -29,28 +31,18 @@ ghost use Rattle.plan.specs.Plan.{
   transferPlan,
   accessPlan,
   refreshPlan,
+  planOf,
   countersAfter,
 };
-ghost use Rattle.service.specs.Serve.{restOf, carriedBy, conductedOf, servesOf, takenOf, latencyOf};
+ghost use Rattle.service.specs.Serve.{carriedWith, restOf, takenOf, latencyOf, Conducted, ConductedBy};
 
-// A plan carried out: the slot's command, and what follows.
+// A plan carried out: the slot's command, the next action, the report, whether the request under way leaves the queue, and whether the backlog falls.
 pub struct Carried {
     pub command: Command,
-    pub outcome: Outcome,
-}
-
-// What follows a slot.
-
-// The next action alone.
-fn quietly(action: Action) -> Outcome
-    ensures { λ r. ⌜ r ≡ quietly action ⌝ }
-{
-    Outcome {
-        action,
-        report: Report::Nothing,
-        leaves: false,
-        refreshes: false,
-    }
+    pub action: Action,
+    pub report: Report,
+    pub leaves: bool,
+    pub refreshes: bool,
 }
 
 // The counters, after a REFR that was owed if one was sent.
@@ -63,41 +55,28 @@ pub fn counters_after(n: Counters, refreshes: bool) -> Counters
     n
 }
 
-// A slot.
+// A command after which nothing but the next action follows.
+fn quiet(command: Command, action: Action) -> Carried
+    ensures { λ e. ⌜ e ≡ carriedWith command (quietly action) ⌝ }
+{
+    Carried {
+        command,
+        action,
+        report: Report::Nothing,
+        leaves: false,
+        refreshes: false,
+    }
+}
 
 // A NOP.
 fn rest(action: Action) -> Carried
-    ensures { λ r. ⌜ r ≡ restOf action ⌝ }
+    ensures { λ e. ⌜ e ≡ restOf action ⌝ }
 {
-    let outcome = quietly(action);
-    Carried {
-        command: Command::Nop,
-        outcome,
-    }
-}
-
-// A command, and what follows it if it is legal; a NOP and the action that stays if it isn't.
-fn carried_out(legal: bool, command: Command, sent: Outcome, stays: Action) -> Carried
-    ensures { λ r. ⌜ r ≡ carriedBy legal command sent stays ⌝ }
-{
-    if legal {
-        return Carried {
-            command,
-            outcome: sent,
-        };
-    }
-    rest(stays)
-}
-
-// Nothing but the next action follows.
-fn tried(legal: bool, command: Command, stays: Action, next: Action) -> Carried
-    ensures { λ r. ⌜ r ≡ carriedBy legal command (quietly next) stays ⌝ }
-{
-    carried_out(legal, command, quietly(next), stays)
+    quiet(Command::Nop, action)
 }
 
 // The pause has so many slots left, this one included.
-fn after_pause(n: u32) -> Action
+fn after_pause(n: u16) -> Action
     ensures { λ r. ⌜ r ≡ afterPause n ⌝ }
 {
     if n <= 1 {
@@ -107,7 +86,7 @@ fn after_pause(n: u32) -> Action
 }
 
 // The initialisation has so many REFR left, this one included.
-fn after_init_refresh(n: u8) -> Action
+fn after_init_refresh(n: u16) -> Action
     ensures { λ r. ⌜ r ≡ afterInitRefresh n ⌝ }
 {
     if n <= 1 {
@@ -117,7 +96,7 @@ fn after_init_refresh(n: u8) -> Action
 }
 
 // What is left of a refresh after the first of so many slots.
-fn refresh_cycle(slots: u8) -> Action
+fn refresh_cycle(slots: u16) -> Action
     ensures { λ r. ⌜ r ≡ cycleLeft (slots - 1) ⌝ }
 {
     if slots <= 1 {
@@ -130,173 +109,261 @@ fn refresh_cycle(slots: u8) -> Action
 fn taken(r: Request, bus: u16) -> Carried
     ensures { λ e. ⌜ e ≡ takenOf r bus ⌝ }
 {
-    let outcome = Outcome {
+    Carried {
+        command: Command::Nop,
         action: Action::Turnaround,
         report: Report::Read(r.number, bus),
         leaves: true,
         refreshes: false,
-    };
-    Carried {
-        command: Command::Nop,
-        outcome,
     }
 }
 
-// A slot after a READ.
-fn latency(i: usize, left: u8, r: Request, bus: u16) -> Carried
-    ensures { λ e. ⌜ e ≡ latencyOf i left r bus ⌝ }
+// A slot after a READ for the request at place i.
+fn latency(i: u16, left: u16, places: &[u32; 24], bus: u16) -> Carried
+    ensures { λ e. ⌜ e ≡ latencyOf i left (requestAt (now (places .entry)) i) bus ⌝ }
 {
     if left <= 1 {
-        return taken(r, bus);
+        return taken(places::request_at(places, i), bus);
     }
     rest(Action::CasLatency(i, left - 1))
 }
 
 // The READ for the request at place i with this cell.
-fn read(c: Config, p: Past, i: usize, cell: Cell) -> Carried
+fn read(c: Config, ages: &mut [u8; 16], opened: &[bool; 4], i: u16, cell: Cell) -> Carried
     requires { ⌜ Shaped (c .geometry) ⌝ }
-    ensures { λ e. ⌜ e ≡ conductedOf c (byAges c p) (readPlan c i cell) ⌝ }
+    ensures { λ e. ⌜ ConductedBy c (now (ages .entry)) (now (opened .entry)) (now (ages .exit)) (now (opened .entry)) (readPlan c i cell) e ⌝ }
 {
     let bank = cell.bank;
     let column = cell.column;
-    let legal = legality::read_legal(c, p, bank, column);
-    let command = Command::Read(bank, column);
-    tried(
-        legal,
-        command,
-        Action::Access(i),
-        Action::CasLatency(i, c.latency),
-    )
+    if legality::read_legal(c, ages, opened, bank, column) {
+        aging::note_read(ages);
+        return quiet(
+            Command::Read(bank, column),
+            Action::CasLatency(i, c.latency as u16),
+        );
+    }
+    rest(Action::Access(i))
 }
 
 // The WRT for the request r at place i.
-fn write(c: Config, p: Past, i: usize, r: Request, cell: Cell) -> Carried
+fn write(
+    c: Config,
+    ages: &mut [u8; 16],
+    opened: &[bool; 4],
+    i: u16,
+    r: Request,
+    cell: Cell,
+) -> Carried
     requires { ⌜ Shaped (c .geometry) ⌝ }
-    ensures { λ e. ⌜ e ≡ conductedOf c (byAges c p) (writePlan i r cell) ⌝ }
+    ensures { λ e. ⌜ ConductedBy c (now (ages .entry)) (now (opened .entry)) (now (ages .exit)) (now (opened .entry)) (writePlan i r cell) e ⌝ }
 {
     let bank = cell.bank;
     let column = cell.column;
-    let legal = legality::wrt_legal(c, p, bank, column);
-    let command = Command::Wrt(bank, column, r.halfword);
-    let sent = Outcome {
-        action: Action::Idle,
-        report: Report::Write(r.number),
-        leaves: true,
-        refreshes: false,
-    };
-    carried_out(legal, command, sent, Action::Access(i))
+    if legality::wrt_legal(c, ages, opened, bank, column) {
+        aging::note_wrt(ages, bank);
+        return Carried {
+            command: Command::Wrt(bank, column, r.halfword),
+            action: Action::Idle,
+            report: Report::Write(r.number),
+            leaves: true,
+            refreshes: false,
+        };
+    }
+    rest(Action::Access(i))
 }
 
 // The READ or the WRT.
-fn transfer(c: Config, p: Past, i: usize, r: Request, cell: Cell, kind: Kind) -> Carried
+fn transfer(
+    c: Config,
+    ages: &mut [u8; 16],
+    opened: &[bool; 4],
+    i: u16,
+    r: Request,
+    cell: Cell,
+) -> Carried
     requires { ⌜ Shaped (c .geometry) ⌝ }
-    ensures { λ e. ⌜ e ≡ conductedOf c (byAges c p) (transferPlan c i r cell kind) ⌝ }
+    ensures { λ e. ⌜ ConductedBy c (now (ages .entry)) (now (opened .entry)) (now (ages .exit)) (now (opened .entry)) (transferPlan c i r cell (r .kind)) e ⌝ }
 {
+    let kind = r.kind;
     match kind {
-        Kind::Read => read(c, p, i, cell),
-        Kind::Write => write(c, p, i, r, cell),
+        Kind::Read => read(c, ages, opened, i, cell),
+        Kind::Write => write(c, ages, opened, i, r, cell),
     }
+}
+
+// The PRE for the request at place i.
+fn precharge(c: Config, ages: &mut [u8; 16], opened: &mut [bool; 4], i: u16, bank: Bank) -> Carried
+    requires { ⌜ Shaped (c .geometry) ⌝ }
+    ensures { λ e. ⌜ ConductedBy c (now (ages .entry)) (now (opened .entry)) (now (ages .exit)) (now (opened .exit)) (tries (Pre bank) (Access i) (Access i)) e ⌝ }
+{
+    if legality::pre_legal(c, ages, opened, bank) {
+        aging::note_pre(ages, opened, bank);
+        return quiet(Command::Pre(bank), Action::Access(i));
+    }
+    rest(Action::Access(i))
+}
+
+// The ACT for the request at place i.
+fn activate(
+    c: Config,
+    ages: &mut [u8; 16],
+    opened: &mut [bool; 4],
+    rows: &mut [u16; 4],
+    programmed: bool,
+    i: u16,
+    bank: Bank,
+    row: Row,
+) -> Carried
+    requires { ⌜ Shaped (c .geometry) ⌝ }
+    ensures { λ e. ⌜ Conducted c (pastOf (now (ages .entry)) (now (opened .entry)) (now (rows .entry)) programmed) (pastOf (now (ages .exit)) (now (opened .exit)) (now (rows .exit)) programmed) (tries (Act bank row) (Access i) (Access i)) e ⌝ }
+{
+    if legality::act_legal(c, ages, opened, programmed, bank, row) {
+        aging::note_act(ages, opened, rows, bank, row);
+        return quiet(Command::Act(bank, row), Action::Access(i));
+    }
+    rest(Action::Access(i))
 }
 
 // The access's next command: PRE, ACT, or READ or WRT.
-fn access_to(c: Config, p: Past, i: usize, r: Request, cell: Cell) -> Carried
+fn access_to(
+    c: Config,
+    ages: &mut [u8; 16],
+    opened: &mut [bool; 4],
+    rows: &mut [u16; 4],
+    programmed: bool,
+    i: u16,
+    r: Request,
+    cell: Cell,
+) -> Carried
     requires { ⌜ Shaped (c .geometry) ⌝ }
-    ensures { λ e. ⌜ e ≡ conductedOf c (byAges c p) (accessPlan c (rowAt p (cell .bank .0)) i r cell) ⌝ }
+    ensures { λ e. ⌜ Conducted c (pastOf (now (ages .entry)) (now (opened .entry)) (now (rows .entry)) programmed) (pastOf (now (ages .exit)) (now (opened .exit)) (now (rows .exit)) programmed) (accessPlan c (openRows (now (opened .entry)) (now (rows .entry)) (cell .bank .0)) i r cell) e ⌝ }
 {
     let bank = cell.bank;
     let row = cell.row;
-    let here = Action::Access(i);
-    if ages::is_open(p, bank) {
-        let opened = ages::row_in(p, bank);
-        if opened.0 == row.0 {
-            let kind = r.kind;
-            return transfer(c, p, i, r, cell, kind);
+    if ages::is_open(opened, bank) {
+        let open_row = ages::row_in(rows, bank);
+        if open_row.0 == row.0 {
+            return transfer(c, ages, opened, i, r, cell);
         }
-        return tried(
-            legality::pre_legal(c, p, bank),
-            Command::Pre(bank),
-            here,
-            here,
-        );
+        return precharge(c, ages, opened, i, bank);
     }
-    tried(
-        legality::act_legal(c, p, bank, row),
-        Command::Act(bank, row),
-        here,
-        here,
-    )
+    activate(c, ages, opened, rows, programmed, i, bank, row)
 }
 
-// The access of the request r at place i: to the cell of its address.
-fn access(c: Config, p: Past, i: usize, r: Request) -> Carried
+// The access of the request at place i: to the cell of its address.
+fn access(
+    c: Config,
+    ages: &mut [u8; 16],
+    opened: &mut [bool; 4],
+    rows: &mut [u16; 4],
+    programmed: bool,
+    places: &[u32; 24],
+    i: u16,
+) -> Carried
     requires { ⌜ Shaped (c .geometry) ⌝ }
-    ensures { λ e. ⌜ e ≡ conductedOf c (byAges c p) (accessPlan c (rowAt p (cellFor (c .geometry) r .bank .0)) i r (cellFor (c .geometry) r)) ⌝ }
+    ensures { λ e. ⌜ Conducted c (pastOf (now (ages .entry)) (now (opened .entry)) (now (rows .entry)) programmed) (pastOf (now (ages .exit)) (now (opened .exit)) (now (rows .exit)) programmed) (planOf c (byAges c (pastOf (now (ages .entry)) (now (opened .entry)) (now (rows .entry)) programmed)) (requestAt (now (places .entry)) i) (Access i) 0) e ⌝ }
 {
+    let r = places::request_at(places, i);
     let geometry = c.geometry;
     let cell = r.cell(geometry);
-    access_to(c, p, i, r, cell)
+    access_to(c, ages, opened, rows, programmed, i, r, cell)
+}
+
+// DEAC, and then `next`; until it is legal, `stays`.
+fn precharge_all(
+    c: Config,
+    ages: &mut [u8; 16],
+    opened: &mut [bool; 4],
+    stays: Action,
+    next: Action,
+) -> Carried
+    ensures { λ e. ⌜ ConductedBy c (now (ages .entry)) (now (opened .entry)) (now (ages .exit)) (now (opened .exit)) (tries Deac stays next) e ⌝ }
+{
+    if legality::deac_legal(c, ages, opened) {
+        aging::note_deac(ages, opened);
+        return quiet(Command::Deac, next);
+    }
+    rest(stays)
+}
+
+// One of the initialisation's REFRs, of which so many are left.
+fn init_refresh(c: Config, ages: &mut [u8; 16], opened: &[bool; 4], n: u16) -> Carried
+    ensures { λ e. ⌜ ConductedBy c (now (ages .entry)) (now (opened .entry)) (now (ages .exit)) (now (opened .entry)) (tries Refr (InitRefresh n) (afterInitRefresh n)) e ⌝ }
+{
+    if legality::refr_legal(c, ages, opened) {
+        aging::note_refr(ages);
+        return quiet(Command::Refr, after_init_refresh(n));
+    }
+    rest(Action::InitRefresh(n))
 }
 
 // The REFR of a refresh.
-fn refresh_slot(c: Config, p: Past) -> Carried
-    ensures { λ e. ⌜ e ≡ conductedOf c (byAges c p) (refreshPlan c) ⌝ }
+fn refresh_slot(c: Config, ages: &mut [u8; 16], opened: &[bool; 4]) -> Carried
+    ensures { λ e. ⌜ ConductedBy c (now (ages .entry)) (now (opened .entry)) (now (ages .exit)) (now (opened .entry)) (refreshPlan c) e ⌝ }
 {
-    let legal = legality::refr_legal(c, p);
-    let sent = Outcome {
-        action: refresh_cycle(c.rfc),
-        report: Report::Nothing,
-        leaves: false,
-        refreshes: true,
-    };
-    carried_out(legal, Command::Refr, sent, Action::Refresh)
+    if legality::refr_legal(c, ages, opened) {
+        aging::note_refr(ages);
+        return Carried {
+            command: Command::Refr,
+            action: refresh_cycle(c.rfc as u16),
+            report: Report::Nothing,
+            leaves: false,
+            refreshes: true,
+        };
+    }
+    rest(Action::Refresh)
 }
 
 // The MRS of the initialisation.
-fn mode_slot(c: Config, p: Past) -> Carried
-    ensures { λ e. ⌜ e ≡ conductedOf c (byAges c p) (tries (Mrs (modeWord c)) InitMode InitSettle) ⌝ }
+fn mode_slot(c: Config, ages: &mut [u8; 16], opened: &[bool; 4], programmed: &mut bool) -> Carried
+    ensures { λ e. ⌜ ((rows : List ℕ) → Conducted c (pastOf (now (ages .entry)) (now (opened .entry)) rows (now (programmed .entry))) (pastOf (now (ages .exit)) (now (opened .entry)) rows (now (programmed .exit))) (tries (Mrs (modeWord c)) InitMode InitSettle) e) ⌝ }
 {
     let word = 16 * (c.latency as u16);
-    let legal = legality::mrs_legal(c, p, word);
-    tried(
-        legal,
-        Command::Mrs(word),
-        Action::InitMode,
-        Action::InitSettle,
-    )
+    if legality::mrs_legal(c, ages, opened, word) {
+        aging::note_mrs(ages, programmed);
+        return quiet(Command::Mrs(word), Action::InitSettle);
+    }
+    rest(Action::InitMode)
 }
 
-// The slot of an action; r is the request under way, and `bus` the halfword that the bus carries.
-pub fn serve(c: Config, p: Past, r: Request, action: Action, bus: u16) -> Carried
+// The slot of an action; `places` has its request, and `bus` is the halfword that the bus carries.
+pub fn serve(
+    c: Config,
+    ages: &mut [u8; 16],
+    opened: &mut [bool; 4],
+    rows: &mut [u16; 4],
+    programmed: &mut bool,
+    places: &[u32; 24],
+    action: Action,
+    bus: u16,
+) -> Carried
     requires { ⌜ Shaped (c .geometry) ⌝ }
-    ensures { λ e. ⌜ e ≡ servesOf c (byAges c p) r action bus ⌝ }
+    ensures { λ e. ⌜ Conducted c (pastOf (now (ages .entry)) (now (opened .entry)) (now (rows .entry)) (now (programmed .entry))) (pastOf (now (ages .exit)) (now (opened .exit)) (now (rows .exit)) (now (programmed .exit))) (planOf c (byAges c (pastOf (now (ages .entry)) (now (opened .entry)) (now (rows .entry)) (now (programmed .entry)))) (requestAt (now (places .entry)) (underWay action)) action bus) e ⌝ }
 {
     match action {
         Action::PowerUp(n) => rest(after_pause(n)),
-        Action::InitPrecharge => tried(
-            legality::deac_legal(c, p),
-            Command::Deac,
+        Action::InitPrecharge => precharge_all(
+            c,
+            ages,
+            opened,
             Action::InitPrecharge,
             Action::InitRefresh(8),
         ),
-        Action::InitRefresh(n) => tried(
-            legality::refr_legal(c, p),
-            Command::Refr,
-            Action::InitRefresh(n),
-            after_init_refresh(n),
-        ),
-        Action::InitMode => mode_slot(c, p),
+        Action::InitRefresh(n) => init_refresh(c, ages, opened, n),
+        Action::InitMode => mode_slot(c, ages, opened, programmed),
         Action::InitSettle => rest(Action::Idle),
         Action::Idle => rest(Action::Idle),
-        Action::Access(i) => access(c, p, i, r),
-        Action::CasLatency(i, left) => latency(i, left, r, bus),
+        Action::Access(i) => access(c, ages, opened, rows, *programmed, places, i),
+        Action::CasLatency(i, left) => latency(i, left, places, bus),
         Action::Turnaround => rest(Action::Idle),
-        Action::PrechargeAll => tried(
-            legality::deac_legal(c, p),
-            Command::Deac,
+        Action::PrechargeAll => precharge_all(
+            c,
+            ages,
+            opened,
             Action::PrechargeAll,
             Action::Refresh,
         ),
-        Action::Refresh => refresh_slot(c, p),
+        Action::Refresh => refresh_slot(c, ages, opened),
         Action::RefreshCycle(left) => rest(refresh_cycle(left)),
     }
 }

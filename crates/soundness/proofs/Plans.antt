@@ -12,8 +12,7 @@ use Rattle.ages.specs.declared.Past.{Past}
 use Rattle.ages.specs.Ages.{byAges, sentOf}
 use Rattle.queue.specs.declared.Request.{Request}
 use Rattle.plan.specs.declared.Action.{Action}
-use Rattle.plan.specs.declared.Outcome.{Outcome}
-use Rattle.plan.specs.Plan.{Plan, quietly, outcomeOf, tries, rest, planOf}
+use Rattle.plan.specs.Plan.{Outcome, Plan, quietly, outcomeOf, tries, rest, planOf}
 
 -- what a plan gives: the past after it, the slot's command, and what follows
 pub record Served : Type 0 where

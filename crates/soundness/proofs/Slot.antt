@@ -22,7 +22,7 @@ use Rattle.queue.specs.declared.Found.the-variants.{At, Nothing}
 use Rattle.queue.specs.declared.Kind.{Kind}
 use Rattle.queue.specs.declared.Queue.{Queue}
 use Rattle.queue.specs.declared.Request.{Request}
-use Rattle.queue.specs.Places.{cellFor, heldOf, getOf, acceptOf}
+use Rattle.queue.specs.Places.{cellFor, requestsIn, heldOf, getOf, acceptOf}
 use Rattle.queue.specs.Oldest.{oldestOf}
 use Rattle.queue.proofs.Oldest.{oldest-found}
 use Rattle.refresh.specs.declared.Counters.{Counters}
@@ -213,7 +213,7 @@ module _ {c : Config} (ok : Accepted c) (p : Past) (q : Queue) where
   chosen-access : p .programmed ≡ true → (kind : Kind) (i : ℕ) → oldestOf kind (heldOf q) ≡ At i → Chosen (Access i)
   chosen-access m kind i e =
       let h = oldest-found kind (heldOf q) i e .servable .within in
-      let l = length-take (q .count) (q .places) in
+      let l = length-take (q .count) (requestsIn (q .places)) in
       ((m, omega arith), refl)
 
   chosen : p .programmed ≡ true → (must : Bool) (backlog : ℕ) (closed : Bool) → Chosen (choiceOf must backlog q closed .control .action)

@@ -5,7 +5,7 @@ use mathlib.Core.Path.{_≡_, refl, sym, ap, subst, _∙_}
 use mathlib.Core.Bool.{Bool, true, false, cond}
 use lib.Dec.{eqb, leb}
 use lib.ListN.{length}
-use borrow.Author.Tests.{eq-eqb, ne-eqb, lt-ltb}
+use borrow.Author.Tests.{eq-eqb, ne-eqb, lt-leb}
 use Rattle.config.specs.declared.Config.{Config}
 use Rattle.config.specs.declared.Geometry.{Geometry}
 use Rattle.config.specs.Accepted.{Accepted}
@@ -57,9 +57,9 @@ module _ {c : Config} {w : World} (a : Accepted c) (v : Whole c w) where
 -- An accepted request keeps the invariant, with the configuration that the machine holds.
 accept-count : (q : Queue) (r : Request) → q .count < 8 → acceptOf q r .count ≡ q .count + 1
 unfolding acceptOf
-accept-count q r h = rw (lt-ltb (q .count) 8 h)
+accept-count q r h = rw (lt-leb 8 (q .count) h)
 
-module _ (w : World) (v : Whole (w .machine .config) w) (kind : Kind) (address halfword : ℕ) (room : RequestFacts (w .machine) address) where
+module _ (w : World) (v : Whole (w .machine .config) w) (kind : Kind) (address halfword : ℕ) (fits : halfword < 65536) (room : RequestFacts (w .machine) address) where
   abbrev c : Config
   c = w .machine .config
 
@@ -72,7 +72,7 @@ module _ (w : World) (v : Whole (w .machine .config) w) (kind : Kind) (address h
   request-ordered : Ordered (c .geometry) (acceptOf (w .machine .queue) r) (w .machine .control .action) (w .machine .accepted + 1) (w .sdram)
       (taken (w .flat) kind address halfword) (w .reported)
   unfolding queuedRequest
-  request-ordered = ordered-request (v .ordered) kind address halfword (room .room) (room .place)
+  request-ordered = ordered-request (v .ordered) kind address halfword fits (room .room) (room .place)
 
   request-timed : (b : Bool) → Phase c w b → Phase c next b
   unfolding afterRequest enqueuedOf
@@ -102,15 +102,15 @@ refused : {c : Config} {w : World} → Whole c w → (kind : Kind) (address half
 unfolding afterRequest flatAfter
 refused v kind address halfword n e = rw (ne-eqb n 0 e) v
 
-request-own : (w : World) → Whole (w .machine .config) w → (kind : Kind) (address halfword : ℕ)
+request-own : (w : World) → Whole (w .machine .config) w → (kind : Kind) (address halfword : ℕ) → halfword < 65536
     → Whole (w .machine .config) (afterRequest w kind address halfword (requestOf (w .machine) kind address halfword))
-request-own w v kind address halfword =
+request-own w v kind address halfword fits =
     request-cases (w .machine) kind address halfword (λ x. Whole (w .machine .config) (afterRequest w kind address halfword x))
-    (λ e. request-accepted w v kind address halfword (request-facts (w .machine) address e))
+    (λ e. request-accepted w v kind address halfword fits (request-facts (w .machine) address e))
     (λ e. refused v kind address halfword (requestNumberOf (w .machine) address) e)
 
-pub request-whole : {c : Config} (w : World) → Whole c w → (kind : Kind) (address halfword : ℕ)
+pub request-whole : {c : Config} (w : World) → Whole c w → (kind : Kind) (address halfword : ℕ) → halfword < 65536
     → Whole c (afterRequest w kind address halfword (requestOf (w .machine) kind address halfword))
 request-whole {c} w v =
-    subst (λ (x : Config). Whole x w → (kind : Kind) (address halfword : ℕ) → Whole x (afterRequest w kind address halfword (requestOf (w .machine) kind address halfword)))
+    subst (λ (x : Config). Whole x w → (kind : Kind) (address halfword : ℕ) → halfword < 65536 → Whole x (afterRequest w kind address halfword (requestOf (w .machine) kind address halfword)))
     (v .kept .config) (request-own w) v

@@ -16,7 +16,7 @@ use Rattle.device.specs.Rules.{allHold, R12-open, R13-open, R14, R15, requireme
 use Rattle.device.proofs.Tests.{by-test, if-both, both}
 use Rattle.device.proofs.Alike.{hold-append}
 use Rattle.ages.specs.declared.Past.{Past}
-use Rattle.ages.specs.Ages.{cap, freshOf, ageOf, openedOf, rowIn, rowAt, byAges, agedOf, agesAfter, sentOf}
+use Rattle.ages.specs.Ages.{cap, freshOf, ageOf, openIn, rowIn, openRows, rowAt, byAges, agedOf, agesAfter, sentOf}
 use Rattle.ages.proofs.Slot.{sent-age}
 use Rattle.queue.specs.declared.Request.{Request}
 use Rattle.plan.specs.declared.Action.{Action}
@@ -92,7 +92,7 @@ unfolding sentOf agesAfter freshOf agedOf marksOf rowOf
 fresh-nop = refl
 
 fresh-deac : (c : Config) → c .rfc ≤ cap → legalOf c (byAges c freshOf) Deac ≡ true
-unfolding legalOf requirements R12-open R13-open freshOf rowAt rowIn openedOf
+unfolding legalOf requirements R12-open R13-open freshOf openRows rowIn openIn
 fresh-deac c h = simp (le-leb (c .rfc) cap h)
 
 module _ (p : Past) where

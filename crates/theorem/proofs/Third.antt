@@ -52,7 +52,7 @@ use Rattle.sequencer.specs.declared.Configured.{Configured}
 use Rattle.sequencer.specs.Calls.{configuredBy, configureOf}
 use Rattle.sequencer.specs.Machine.{blankOf, machineOf}
 use Rattle.model.specs.Sdram.{Cells, takes, startSdram, sdramAfter}
-use Rattle.model.specs.World.{World, Call, read, write, slot, backlog, startWorld, busOf, slotIn, afterSlot, after}
+use Rattle.model.specs.World.{World, halfwordOf, Call, read, write, slot, backlog, startWorld, busOf, slotIn, afterSlot, after}
 use Rattle.model.specs.Condition.{isRefr, firstService, servedBy, serviceRefreshes, expiries, refreshes, Carried, Right, Promised, ThirdCondition}
 use Rattle.theorem.proofs.Invariant.{Settled}
 use Rattle.theorem.proofs.Calls.{slot-steps}
@@ -273,8 +273,8 @@ slot-right {c} w a v =
 
 pub call-right : {c : Config} (w : World) → Accepted c → Whole c w → (k : Call) → Whole c (after c w k) × Right c w k
 unfolding after
-call-right w a v (read x) = (request-whole w v Kind.Read x 0, answered a v Kind.Read x 0)
-call-right w a v (write x h) = (request-whole w v Kind.Write x h, answered a v Kind.Write x h)
+call-right w a v (read x) = (request-whole w v Kind.Read x 0 (omega arith), answered a v Kind.Read x 0)
+call-right w a v (write x h) = (request-whole w v Kind.Write x (halfwordOf h) (omega arith), answered a v Kind.Write x (halfwordOf h))
 call-right w a v (slot any) = slot-right w a v any
 call-right w a v backlog = (v, exact a v)
 

@@ -1,44 +1,71 @@
 -- The code's way through a slot is the slot of `plan`.
 use Prim.Native.Nat.{ℕ}
-use mathlib.Core.Path.{_≡_, refl}
-use mathlib.Core.Bool.{Bool, true, false, cond}
+use mathlib.Core.Path.{_≡_}
+use mathlib.Core.Bool.{Bool}
+use lib.ListN.{length}
 use Rattle.config.specs.declared.Config.{Config}
 use Rattle.device.specs.View.{allClosed}
 use Rattle.ages.specs.declared.Past.{Past}
-use Rattle.ages.specs.Ages.{rowAt, byAges}
+use Rattle.ages.specs.Ages.{rowAt, byAges, sentOf}
+use Rattle.aging.specs.Noted.{elapsedOf}
+use Rattle.aging.proofs.Slot.{noted-sent}
 use Rattle.queue.specs.declared.Queue.{Queue}
-use Rattle.queue.specs.Places.{getOf}
+use Rattle.queue.specs.Places.{requestAt, getOf}
 use Rattle.refresh.specs.declared.Counters.{Counters}
-use Rattle.plan.specs.declared.Control.{Control}
-use Rattle.plan.specs.Actions.{isIdle, underWay}
-use Rattle.plan.specs.Plan.{planOf, queueAfter}
-use Rattle.plan.specs.Choice.{choiceOf, currentOf}
-use Rattle.plan.specs.Slot.{Turn, tickedOf, turnOf}
-use Rattle.service.specs.Serve.{servesOf}
+use Rattle.plan.specs.declared.Action.{Action}
+use Rattle.plan.specs.Actions.{controlOf, underWay}
+use Rattle.plan.specs.Plan.{planOf, queueAfter, countersAfter}
+use Rattle.plan.specs.Slot.{tickedOf, turnOf}
+use Rattle.choice.specs.Rules.{mustOf, actionOf}
+use Rattle.choice.proofs.Laws.{current-is}
+use Rattle.service.specs.declared.Carried.{Carried}
+use Rattle.service.specs.Serve.{carriedWith, conductedOf, Conducted}
 use Rattle.service.proofs.Laws.{conducted-is}
-use Rattle.turn.specs.declared.Turned.{Turned}
-use Rattle.turn.specs.Parts.{actionOf, planned, givenOf, turnedOf}
+use Rattle.turn.specs.Parts.{Parts, steppedOf}
 
--- a choice keeps the queue
-current-keeps : (y : Control) (backlog : ℕ) (q : Queue) (closed : Bool) → currentOf y backlog q closed .queue ≡ q
-unfolding currentOf choiceOf
-current-keeps y backlog q closed = by-test (isIdle (y .action))
-  where
-    by-test : (b : Bool) → cond b (choiceOf (y .must) backlog q closed) (record { control = y; queue = q }) .queue ≡ q
-    by-test true = refl
-    by-test false = refl
+module _ (c : Config) (p : Past) (n : Counters) (a : Action) (must : Bool) (q : Queue) (bus : ℕ) where
+  -- the slot's counters before its REFR, its Must run, its action, and the plan of that carried out
+  abbrev counted : Counters
+  counted = tickedOf c n a
 
--- what the slot of the parts says of the machine's queue
-abbrev withQueue : Queue → Turned → Turn
-withQueue q t =
-    record { command = t .command; report = t .report; counters = t .counters; control = t .control; queue = queueAfter q (t .at) (t .leaves) }
+  abbrev run : Bool
+  run = mustOf a must (counted .backlog)
 
-pub turn-is : (c : Config) (p : Past) (n : Counters) (control : Control) (q : Queue) (bus : ℕ)
-    → turnOf c (byAges c p) n control q bus ≡ withQueue q (turnedOf c p n control q bus)
-unfolding turnOf turnedOf actionOf planned givenOf servesOf
-turn-is c p n control q bus =
-    let x = currentOf control (tickedOf c n (control .action) .backlog) q (allClosed (rowAt p)) in
-    rw (
-      current-keeps control (tickedOf c n (control .action) .backlog) q (allClosed (rowAt p)),
-      conducted-is c (byAges c p) (planOf c (byAges c p) (getOf q (underWay (x .control .action))) (x .control .action) bus),
-    )
+  abbrev current : Action
+  current = actionOf a run (counted .backlog) q (allClosed (rowAt p))
+
+  abbrev carried : Carried
+  carried = conductedOf c (byAges c p) (planOf c (byAges c p) (requestAt (q .places) (underWay current)) current bus)
+
+  -- what the code gives of these
+  abbrev partsOf : Carried → Past → Counters → Bool → Queue → Parts
+  partsOf e past counters must queue =
+      record {
+        command = e .command;
+        report = e .report;
+        past = past;
+        counters = counters;
+        control = controlOf (e .action) must;
+        queue = queue;
+      }
+
+  stepped-is : partsOf carried (sentOf p (carried .command)) (countersAfter counted (carried .refreshes)) run (queueAfter q (underWay current) (carried .leaves))
+      ≡ steppedOf c p n (controlOf a must) q bus
+  unfolding steppedOf turnOf carriedWith getOf
+  stepped-is =
+      rw (
+        current-is a must (counted .backlog) q (allClosed (rowAt p)),
+        conducted-is c (byAges c p) (planOf c (byAges c p) (requestAt (q .places) (underWay current)) current bus),
+      )
+
+  -- each step of the code with what it ensures
+  pub step-is : length (p .ages) ≡ 16 → length (p .opened) ≡ 4 → length (p .rows) ≡ 4
+      → {t : Counters} → t ≡ counted
+      → {m : Bool} → m ≡ mustOf a must (t .backlog)
+      → {x : Action} → x ≡ actionOf a m (t .backlog) q (allClosed (rowAt p))
+      → {e : Carried} {noted : Past} → Conducted c p noted (planOf c (byAges c p) (requestAt (q .places) (underWay x)) x bus) e
+      → {counters : Counters} → counters ≡ countersAfter t (e .refreshes)
+      → {queue : Queue} → queue ≡ queueAfter q (underWay x) (e .leaves)
+      → {past : Past} → past ≡ elapsedOf noted
+      → partsOf e past counters m queue ≡ steppedOf c p n (controlOf a must) q bus
+  step-is la lo lr et em ex s en eq ep = rw (ep, s .noted, noted-sent p _ la lo lr, en, eq, s .result, ex, em, et) stepped-is

@@ -1,2 +1,2 @@
--- How the code goes about a slot.
+-- One slot on the machine's parts.
 pub mod Parts

@@ -1,27 +1,28 @@
 // Owns one slot on the machine's parts (document 01, "Start" and "A service slot"; `plan` has the rules): the counters, the choice, the plan of
-// the action, and the past after the slot's command. The queue is only read: the machine takes out the request that leaves.
-use ages::Past;
+// the action, the queue and the past after it. The past's arrays and the queue's places are changed in place.
 use command::Command;
 use config::Config;
 use plan::Action;
-use plan::Control;
 use plan::Report;
-use queue::Queue;
 use refresh::Counters;
 ghost use mathlib.Core.Path.{_≡_};
+ghost use lib.ListN.{length};
 ghost use Rattle.config.specs.Accepted.{Shaped};
+ghost use Rattle.ages.specs.Ages.{pastOf};
+ghost use Rattle.queue.specs.Places.{queueOf};
+ghost use Rattle.plan.specs.Actions.{controlOf};
+ghost use Rattle.plan.specs.Plan.{queueAfter};
 ghost use Rattle.plan.specs.Slot.{tickedOf};
-ghost use Rattle.turn.specs.Parts.{turnedOf};
+ghost use Rattle.turn.specs.Parts.{gathered, steppedOf, refusedOf, turnedOf};
 
-// What a slot gives: its command and report, the parts after it, and whether the request at place `at` leaves the queue.
+// What a slot gives, beside what it changes in place: its command and report, and the machine's other parts after it.
 pub struct Turned {
-    pub past: Past,
-    pub counters: Counters,
-    pub control: Control,
     pub command: Command,
     pub report: Report,
-    pub at: usize,
-    pub leaves: bool,
+    pub action: Action,
+    pub counters: Counters,
+    pub count: u32,
+    pub must: bool,
 }
 
 // The slot's counters: the interval falls in a service slot.
@@ -34,35 +35,103 @@ fn ticked(c: Config, n: Counters, action: Action) -> Counters
     n
 }
 
-// One slot; `bus` is the halfword that the bus carries.
-pub fn turn(c: Config, p: Past, n: Counters, control: Control, queue: Queue, bus: u16) -> Turned
-    requires { ⌜ Shaped (c .geometry) ⌝ }
-    ensures { λ r. ⌜ r ≡ turnedOf c p n control queue bus ⌝ }
+// The request at place `at` may leave the queue. It gives the count after it.
+fn queue_after(places: &mut [u32; 24], count: u32, at: u16, leaves: bool) -> u32
+    ensures { λ r. ⌜ queueOf (now (places .exit)) r ≡ queueAfter (queueOf (now (places .entry)) count) at leaves ⌝ }
 {
-    let before = control.action;
-    let ticked = ticked(c, n, before);
-    let current = choice::current(control, ticked.backlog, queue, p);
-    let action = current.action;
-    let at = actions::place(action);
-    let request = queue.get(at);
-    let carried = service::serve(c, p, request, action, bus);
+    if leaves {
+        return places::remove(places, count, at);
+    }
+    count
+}
+
+// One slot, with the action under way when it begins; `must` says whether a Must run is on, and `bus` is the halfword that the bus carries.
+fn step(
+    c: Config,
+    ages: &mut [u8; 16],
+    opened: &mut [bool; 4],
+    rows: &mut [u16; 4],
+    programmed: &mut bool,
+    places: &mut [u32; 24],
+    count: u32,
+    n: Counters,
+    action: Action,
+    must: bool,
+    bus: u16,
+) -> Turned
+    requires { ⌜ Shaped (c .geometry) ⌝ }
+    requires { ⌜ (length (now ages) ≡ 16) × (length (now opened) ≡ 4) × (length (now rows) ≡ 4) ⌝ }
+    ensures { λ r. ⌜ gathered (pastOf (now (ages .exit)) (now (opened .exit)) (now (rows .exit)) (now (programmed .exit))) (now (places .exit)) r ≡ steppedOf c (pastOf (now (ages .entry)) (now (opened .entry)) (now (rows .entry)) (now (programmed .entry))) n (controlOf action must) (queueOf (now (places .entry)) count) bus ⌝ }
+{
+    let ticked = ticked(c, n, action);
+    let run = choice::must_after(action, must, ticked.backlog);
+    let current = choice::current(action, run, ticked.backlog, places, count, opened);
+    let carried = service::serve(c, ages, opened, rows, programmed, places, current, bus);
+    let at = actions::place(current);
+    let counters = service::counters_after(ticked, carried.refreshes);
+    let left = queue_after(places, count, at, carried.leaves);
+    aging::elapse(ages);
     let command = carried.command;
-    let outcome = carried.outcome;
-    let past = aging::sent(p, command);
-    let counters = service::counters_after(ticked, outcome.refreshes);
-    let next = outcome.action;
-    let control = Control {
-        action: next,
-        must: current.must,
-    };
-    let report = outcome.report;
+    let report = carried.report;
+    let next = carried.action;
     Turned {
-        past,
-        counters,
-        control,
         command,
         report,
-        at,
-        leaves: outcome.leaves,
+        action: next,
+        counters,
+        count: left,
+        must: run,
     }
+}
+
+// A slot that is refused.
+fn refused(count: u32, n: Counters, action: Action, must: bool) -> Turned
+    ensures { λ r. ⌜ r ≡ refusedOf count n action must ⌝ }
+{
+    Turned {
+        command: Command::Nop,
+        report: Report::Nothing,
+        action,
+        counters: n,
+        count,
+        must,
+    }
+}
+
+// One slot where the number is 0; any other number refuses it: a NOP that reports nothing, and nothing changes. Both return to one place in
+// `Machine::slot`, which builds the machine.
+pub fn turn(
+    number: u8,
+    c: Config,
+    ages: &mut [u8; 16],
+    opened: &mut [bool; 4],
+    rows: &mut [u16; 4],
+    programmed: &mut bool,
+    places: &mut [u32; 24],
+    count: u32,
+    n: Counters,
+    action: Action,
+    must: bool,
+    bus: u16,
+) -> Turned
+    requires { ⌜ (number ≡ 0 → Shaped (c .geometry)) ⌝ }
+    requires { ⌜ (length (now ages) ≡ 16) × (length (now opened) ≡ 4) × (length (now rows) ≡ 4) ⌝ }
+    ensures { λ r. ⌜ gathered (pastOf (now (ages .exit)) (now (opened .exit)) (now (rows .exit)) (now (programmed .exit))) (now (places .exit)) r ≡ turnedOf number c (pastOf (now (ages .entry)) (now (opened .entry)) (now (rows .entry)) (now (programmed .entry))) n (controlOf action must) (queueOf (now (places .entry)) count) bus ⌝ }
+{
+    if number != 0 {
+        return refused(count, n, action, must);
+    }
+    step(
+        c,
+        ages,
+        opened,
+        rows,
+        programmed,
+        places,
+        count,
+        n,
+        action,
+        must,
+        bus,
+    )
 }

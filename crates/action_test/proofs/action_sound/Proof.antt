@@ -10,6 +10,9 @@ enum-known-action c = search needs
 cast-is-counting : tie.Need-cast-is-counting
 cast-is-counting c = search needs
 
+cast-is-counting-2 : tie.Need-cast-is-counting-2
+cast-is-counting-2 c = search needs
+
 mul-is-counting : tie.Need-mul-is-counting
 mul-is-counting c = search needs
 
@@ -69,51 +72,51 @@ is-cycling-requires c κs = search needs
 
 returns : tie.Need-returns
 unfolding soundAction
-returns c = simp (c .before .before .before .action .given .1, ← c .is-counting .ensures)
+returns c rows = simp (c .before .before .before .action .given .1, ← c .is-counting .ensures)
 
 returns-2 : tie.Need-returns-2
 unfolding soundAction
-returns-2 c = simp (c .enum-told .given .1)
+returns-2 c rows = simp (c .enum-told .given .1)
 
 returns-3 : tie.Need-returns-3
 unfolding soundAction
-returns-3 c = simp (c .before .before .action2 .given .1, ← c .is-refreshing .ensures)
+returns-3 c rows = simp (c .before .before .action2 .given .1, ← c .is-refreshing .ensures rows)
 
 returns-4 : tie.Need-returns-4
 unfolding soundAction
-returns-4 c = simp (c .before .enum-told2 .given .1, ← c .all-closed .ensures)
+returns-4 c rows = simp (c .before .enum-told2 .given .1, ← c .all-closed .ensures rows)
 
 returns-5 : tie.Need-returns-5
 unfolding soundAction
-returns-5 c = simp (c .enum-told3 .given .1)
+returns-5 c rows = simp (c .enum-told3 .given .1)
 
 returns-6 : tie.Need-returns-6
 unfolding soundAction
-returns-6 c = simp (c .enum-told4 .given .1)
+returns-6 c rows = simp (c .enum-told4 .given .1)
 
 returns-7 : tie.Need-returns-7
 unfolding soundAction
-returns-7 c = simp (c .before .before .action3 .given .1, ← c .is-queued .ensures)
+returns-7 c rows = simp (c .before .before .action3 .given .1, ← c .is-queued .ensures)
 
 returns-8 : tie.Need-returns-8
 unfolding soundAction
-returns-8 c = simp (c .before .before .action4 .given .1, ← c .is-awaited .ensures)
+returns-8 c rows = simp (c .before .before .action4 .given .1, ← c .is-awaited .ensures)
 
 returns-9 : tie.Need-returns-9
 unfolding soundAction
-returns-9 c = simp (c .enum-told5 .given .1)
+returns-9 c rows = simp (c .enum-told5 .given .1)
 
 returns-10 : tie.Need-returns-10
 unfolding soundAction
-returns-10 c = simp (c .enum-told6 .given .1)
+returns-10 c rows = simp (c .enum-told6 .given .1)
 
 returns-11 : tie.Need-returns-11
 unfolding soundAction
-returns-11 c = simp (c .before .enum-told7 .given .1, ← c .is-precharged .ensures)
+returns-11 c rows = simp (c .before .enum-told7 .given .1, ← c .is-precharged .ensures rows)
 
 returns-12 : tie.Need-returns-12
 unfolding soundAction
-returns-12 c = simp (c .before .before .action5 .given .1, ← c .is-cycling .ensures)
+returns-12 c rows = simp (c .before .before .action5 .given .1, ← c .is-cycling .ensures)
 
 pub action-sound-spec : {M : Type 1} → statement M
 action-sound-spec =
@@ -121,6 +124,7 @@ action-sound-spec =
     (tie.spec
     enum-known-action
     cast-is-counting
+    cast-is-counting-2
     mul-is-counting
     is-counting-requires
     enum-told

@@ -10,10 +10,10 @@ is-counting-requires : tie.Need-is-counting-requires
 is-counting-requires c κs = search needs
 
 returns : tie.Need-returns
-returns c = simp (← c .before .before .all-closed .ensures, c .before .if1 .taken, ← c .is-counting .ensures)
+returns c rows = simp (← c .before .before .all-closed .ensures rows, c .before .if1 .taken, ← c .is-counting .ensures)
 
 returns-2 : tie.Need-returns-2
-returns-2 c = simp (← c .before .all-closed .ensures, c .if1 .left)
+returns-2 c rows = simp (← c .before .all-closed .ensures rows, c .if1 .left)
 
 pub is-refreshing-spec : {M : Type 1} → statement M
 is-refreshing-spec =

@@ -12,15 +12,15 @@ returns : tie.Need-returns
 unfolding rowIn
 returns c = simp (le-ltb _ _ (c .if1 .taken))
 
-mul-result : tie.Need-mul-result
-mul-result c = search needs
+mul-t5 : tie.Need-mul-t5
+mul-t5 c = search needs
 
-array-copy-out-result : tie.Need-array-copy-out-result
-array-copy-out-result c = search needs
+element-copy-out-t8 : tie.Need-element-copy-out-t8
+element-copy-out-t8 c = search needs
 
 returns-2 : tie.Need-returns-2
 unfolding rowIn
-returns-2 c = simp (lt-ltb _ _ (c .before .before .if1 .left))
+returns-2 c = simp (lt-ltb _ _ (c .before .if1 .left))
 
 pub row-in-spec : {M : Type 1} → statement M
-row-in-spec = tie.close (tie.spec cast-b returns mul-result array-copy-out-result returns-2)
+row-in-spec = tie.close (tie.spec cast-b returns mul-t5 element-copy-out-t8 returns-2)

@@ -7,7 +7,7 @@ use Rattle.choice.specs.Rules.{fromRule3, fromRule5}
 
 returns : tie.Need-returns
 unfolding rulesOf fromRule3 fromRule5
-returns c = simp (c .if1 .taken)
+returns c rows = simp (c .if1 .taken)
 
 oldest-requires : tie.Need-oldest-requires
 oldest-requires c κs = search needs
@@ -23,11 +23,11 @@ from-rule3-requires c κs = search needs
 
 returns-2 : tie.Need-returns-2
 unfolding rulesOf fromRule3 fromRule5
-returns-2 c = simp (c .before .before .before .before .if1 .left, ← c .before .before .before .oldest .ensures, c .before .i .given .1)
+returns-2 c rows = simp (c .before .before .before .before .if1 .left, ← c .before .before .before .oldest .ensures, c .before .i .given .1)
 
 returns-3 : tie.Need-returns-3
 unfolding rulesOf fromRule3 fromRule5
-returns-3 c = simp (c .before .before .before .before .if1 .left, ← c .before .before .before .oldest .ensures, c .before .enum-told .given .1, ← c .from-rule3 .ensures)
+returns-3 c rows = simp (c .before .before .before .before .if1 .left, ← c .before .before .before .oldest .ensures, c .before .enum-told .given .1, ← c .from-rule3 .ensures rows)
 
 pub choose-spec : {M : Type 1} → statement M
 choose-spec =

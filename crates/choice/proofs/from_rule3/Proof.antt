@@ -9,7 +9,7 @@ needs-requires c κs = search needs
 
 returns : tie.Need-returns
 unfolding fromRule3
-returns c = simp (← c .before .needs .ensures, c .if1 .taken)
+returns c rows = simp (← c .before .needs .ensures, c .if1 .taken)
 
 oldest-requires : tie.Need-oldest-requires
 oldest-requires c κs = search needs
@@ -25,7 +25,7 @@ access-or-requires c κs = search needs
 
 returns-2 : tie.Need-returns-2
 unfolding fromRule3
-returns-2 c = simp (← c .before .before .before .before .before .needs .ensures, c .before .before .before .before .if1 .left, ← c .before .before .before .oldest .ensures, ← c .before .before .all-closed .ensures, ← c .before .from-rule5 .ensures, ← c .access-or .ensures)
+returns-2 c rows = simp (← c .before .before .before .before .before .needs .ensures, c .before .before .before .before .if1 .left, ← c .before .before .before .oldest .ensures, ← c .before .before .all-closed .ensures rows, ← c .before .from-rule5 .ensures, ← c .access-or .ensures)
 
 pub from-rule3-spec : {M : Type 1} → statement M
 from-rule3-spec =

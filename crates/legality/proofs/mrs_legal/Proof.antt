@@ -12,13 +12,13 @@ mul-if1 : tie.Need-mul-if1
 mul-if1 c = search needs
 
 returns : tie.Need-returns
-returns c = rw mrs-is (simp (ne-eqb _ _ (c .if1 .taken)))
+returns c rows programmed = rw (mrs-is, ne-eqb _ _ (c .if1 .taken))
 
 refr-legal-requires : tie.Need-refr-legal-requires
 refr-legal-requires c κs = search needs
 
 returns-2 : tie.Need-returns-2
-returns-2 c = rw mrs-is (simp (eq-eqb _ _ (c .before .if1 .left), ← c .refr-legal .ensures))
+returns-2 c rows programmed = rw (mrs-is, eq-eqb _ _ (c .before .if1 .left)) (c .refr-legal .ensures rows programmed)
 
 pub mrs-legal-spec : {M : Type 1} → statement M
 mrs-legal-spec = tie.close (tie.spec cast-if1 mul-if1 returns refr-legal-requires returns-2)

@@ -1,13 +1,43 @@
 -- PRE's rules in order: each test taken or left settles one.
 use borrow.Author.Needs.{needs}
+use borrow.Author.Tests.{le-leb, lt-leb, not-false, not-true}
+use Prim.Native.Nat.{_+_, _^_, _<_}
+use mathlib.Core.Path.{_≡_}
+use mathlib.Core.Bool.{Bool, true, false, _&&_}
+use native.Mathlib.Omega.{arith}
+use lib.Dec.{leb, ltb}
+use lib.ListN.{getD}
 use Rattle.legality.proofs.pre_legal.Statement.{statement}
 use Rattle.legality.proofs.pre_legal.Tie as tie
-use mathlib.Core.Bool.{false}
-use lib.ListN.{getD}
-use native.Mathlib.Omega.{arith}
-use Rattle.legality.proofs.Hold.{in-bank, pre-is}
+use Rattle.command.specs.declared.Command.the-variants.{Pre}
+use Rattle.device.proofs.Alike.{in-four}
 use Rattle.ages.proofs.Record.{open-here}
-use borrow.Author.Tests.{le-leb, lt-leb, not-false, not-true}
+use Rattle.legality.specs.Verdict.{Verdict}
+use Rattle.legality.proofs.Hold.{pre-is, passed, failed}
+
+-- R1 was passed
+in-range : (c : tie.Else1) → ltb (c .before .before .before .args .bank .0) (2 ^ (c .before .before .before .args .c .geometry .banks)) ≡ true
+in-range c = passed (c .before .inside .ensures) (c .if1 .left)
+
+-- R1 and R2 were passed: the bank is one of the four, and R11 to R13 are left
+abbrev start : tie.Else2 → tie.Start
+start c = c .before .before .before .before .before
+
+four : (c : tie.Else2) → start c .args .bank .0 < 4
+four c = in-four (start c .args .c) (start c .pre) _ (in-range (c .before .before))
+
+abbrev flag : tie.Start → Bool
+flag s = getD (s .args .opened .now) (s .args .bank .0) false
+
+abbrev Left : tie.Start → Type 0
+Left s =
+    Verdict (s .args .c) (s .args .ages .now) (s .args .opened .now) (Pre (s .args .bank))
+    (flag s && (leb (s .args .c .ras) (getD (s .args .ages .now) (s .args .bank .0) 0)
+    && (leb (s .args .c .wr) (getD (s .args .ages .now) (8 + s .args .bank .0) 0) && true)))
+
+left : (c : tie.Else2) → Left (start c)
+left c rows programmed =
+    rw (pre-is, in-range (c .before .before), passed (c .before .settled .ensures) (c .if2 .left), open-here _ _ _ (four c))
 
 cast-inside : tie.Need-cast-inside
 cast-inside c = search needs
@@ -16,40 +46,40 @@ inside-requires : tie.Need-inside-requires
 inside-requires c κs = search needs
 
 returns : tie.Need-returns
-returns c = rw pre-is (simp (← c .before .inside .ensures, not-true (c .before .inside .result) (c .if1 .taken)))
+returns c rows programmed = rw (pre-is, failed (c .before .inside .ensures) (c .if1 .taken))
 
 settled-requires : tie.Need-settled-requires
 settled-requires c κs = search needs
 
 returns-2 : tie.Need-returns-2
-returns-2 c = rw pre-is (simp (← c .before .before .before .inside .ensures, not-false (c .before .before .before .inside .result) (c .before .before .if1 .left), ← c .before .settled .ensures, not-true (c .before .settled .result) (c .if2 .taken)))
+returns-2 c rows programmed = rw (pre-is, in-range (c .before .before), failed (c .before .settled .ensures) (c .if2 .taken))
 
 cast-b : tie.Need-cast-b
 cast-b c = search needs
 
-array-read-if3 : tie.Need-array-read-if3
-array-read-if3 c = omega (arith, in-bank (c .before .before .before .before .before .before .before .args .c) (c .before .before .before .before .before .before .before .pre) (c .before .before .before .before .before .before .before .args .bank .0) (c .before .before .before .before .before .inside .result) (c .before .before .before .before .before .inside .ensures) (c .before .before .before .before .if1 .left))
+element-copy-out-if3 : tie.Need-element-copy-out-if3
+element-copy-out-if3 c = four (c .before)
 
 returns-3 : tie.Need-returns-3
-returns-3 c = rw pre-is (simp (← c .before .before .before .before .before .before .inside .ensures, not-false (c .before .before .before .before .before .before .inside .result) (c .before .before .before .before .before .if1 .left), ← c .before .before .before .before .settled .ensures, not-false (c .before .before .before .before .settled .result) (c .before .before .before .if2 .left), open-here (c .before .before .before .before .before .before .before .before .args .p) (c .before .before .before .before .before .before .before .before .args .bank .0) (in-bank (c .before .before .before .before .before .before .before .before .args .c) (c .before .before .before .before .before .before .before .before .pre) (c .before .before .before .before .before .before .before .before .args .bank .0) (c .before .before .before .before .before .before .inside .result) (c .before .before .before .before .before .before .inside .ensures) (c .before .before .before .before .before .if1 .left)), not-true (getD (c .before .before .before .before .before .before .before .before .args .p .opened) (c .before .before .before .before .before .before .before .before .args .bank .0) false) (c .if3 .taken)))
+returns-3 c rows programmed = let d = c .before .before .before in rw (not-true (flag (start d)) (c .if3 .taken)) at (left d rows programmed)
 
-array-read-if4 : tie.Need-array-read-if4
-array-read-if4 c = omega (arith, in-bank (c .before .before .before .before .before .before .before .before .before .args .c) (c .before .before .before .before .before .before .before .before .before .pre) (c .before .before .before .before .before .before .before .before .before .args .bank .0) (c .before .before .before .before .before .before .before .inside .result) (c .before .before .before .before .before .before .before .inside .ensures) (c .before .before .before .before .before .before .if1 .left))
+element-copy-out-if4 : tie.Need-element-copy-out-if4
+element-copy-out-if4 c = omega (arith, four (c .before .before .before))
 
 returns-4 : tie.Need-returns-4
-returns-4 c = rw pre-is (simp (← c .before .before .before .before .before .before .before .before .before .inside .ensures, not-false (c .before .before .before .before .before .before .before .before .before .inside .result) (c .before .before .before .before .before .before .before .before .if1 .left), ← c .before .before .before .before .before .before .before .settled .ensures, not-false (c .before .before .before .before .before .before .before .settled .result) (c .before .before .before .before .before .before .if2 .left), open-here (c .before .before .before .before .before .before .before .before .before .before .before .args .p) (c .before .before .before .before .before .before .before .before .before .before .before .args .bank .0) (in-bank (c .before .before .before .before .before .before .before .before .before .before .before .args .c) (c .before .before .before .before .before .before .before .before .before .before .before .pre) (c .before .before .before .before .before .before .before .before .before .before .before .args .bank .0) (c .before .before .before .before .before .before .before .before .before .inside .result) (c .before .before .before .before .before .before .before .before .before .inside .ensures) (c .before .before .before .before .before .before .before .before .if1 .left)), not-false (getD (c .before .before .before .before .before .before .before .before .before .before .before .args .p .opened) (c .before .before .before .before .before .before .before .before .before .before .before .args .bank .0) false) (c .before .before .before .if3 .left), lt-leb _ _ (c .if4 .taken)))
+returns-4 c rows programmed = let d = c .before .before .before .before .before .before in rw (not-false (flag (start d)) (c .before .before .before .if3 .left), lt-leb _ _ (c .if4 .taken)) at (left d rows programmed)
 
 add-if5 : tie.Need-add-if5
 add-if5 c = search needs
 
-array-read-if5 : tie.Need-array-read-if5
-array-read-if5 c = omega (arith, in-bank (c .before .before .before .before .before .before .before .before .before .before .before .args .c) (c .before .before .before .before .before .before .before .before .before .before .before .pre) (c .before .before .before .before .before .before .before .before .before .before .before .args .bank .0) (c .before .before .before .before .before .before .before .before .before .inside .result) (c .before .before .before .before .before .before .before .before .before .inside .ensures) (c .before .before .before .before .before .before .before .before .if1 .left))
+element-copy-out-if5 : tie.Need-element-copy-out-if5
+element-copy-out-if5 c = omega (arith, four (c .before .before .before .before .before .before))
 
 returns-5 : tie.Need-returns-5
-returns-5 c = rw pre-is (simp (← c .before .before .before .before .before .before .before .before .before .before .before .inside .ensures, not-false (c .before .before .before .before .before .before .before .before .before .before .before .inside .result) (c .before .before .before .before .before .before .before .before .before .before .if1 .left), ← c .before .before .before .before .before .before .before .before .before .settled .ensures, not-false (c .before .before .before .before .before .before .before .before .before .settled .result) (c .before .before .before .before .before .before .before .before .if2 .left), open-here (c .before .before .before .before .before .before .before .before .before .before .before .before .before .args .p) (c .before .before .before .before .before .before .before .before .before .before .before .before .before .args .bank .0) (in-bank (c .before .before .before .before .before .before .before .before .before .before .before .before .before .args .c) (c .before .before .before .before .before .before .before .before .before .before .before .before .before .pre) (c .before .before .before .before .before .before .before .before .before .before .before .before .before .args .bank .0) (c .before .before .before .before .before .before .before .before .before .before .before .inside .result) (c .before .before .before .before .before .before .before .before .before .before .before .inside .ensures) (c .before .before .before .before .before .before .before .before .before .before .if1 .left)), not-false (getD (c .before .before .before .before .before .before .before .before .before .before .before .before .before .args .p .opened) (c .before .before .before .before .before .before .before .before .before .before .before .before .before .args .bank .0) false) (c .before .before .before .before .before .if3 .left), le-leb _ _ (c .before .before .if4 .left), lt-leb _ _ (c .if5 .taken)))
+returns-5 c rows programmed = let d = c .before .before .before .before .before .before .before .before .before in rw (not-false (flag (start d)) (c .before .before .before .before .before .before .if3 .left), le-leb _ _ (c .before .before .before .if4 .left), lt-leb _ _ (c .if5 .taken)) at (left d rows programmed)
 
 returns-6 : tie.Need-returns-6
-returns-6 c = rw pre-is (simp (← c .before .before .before .before .before .before .before .before .before .before .before .inside .ensures, not-false (c .before .before .before .before .before .before .before .before .before .before .before .inside .result) (c .before .before .before .before .before .before .before .before .before .before .if1 .left), ← c .before .before .before .before .before .before .before .before .before .settled .ensures, not-false (c .before .before .before .before .before .before .before .before .before .settled .result) (c .before .before .before .before .before .before .before .before .if2 .left), open-here (c .before .before .before .before .before .before .before .before .before .before .before .before .before .args .p) (c .before .before .before .before .before .before .before .before .before .before .before .before .before .args .bank .0) (in-bank (c .before .before .before .before .before .before .before .before .before .before .before .before .before .args .c) (c .before .before .before .before .before .before .before .before .before .before .before .before .before .pre) (c .before .before .before .before .before .before .before .before .before .before .before .before .before .args .bank .0) (c .before .before .before .before .before .before .before .before .before .before .before .inside .result) (c .before .before .before .before .before .before .before .before .before .before .before .inside .ensures) (c .before .before .before .before .before .before .before .before .before .before .if1 .left)), not-false (getD (c .before .before .before .before .before .before .before .before .before .before .before .before .before .args .p .opened) (c .before .before .before .before .before .before .before .before .before .before .before .before .before .args .bank .0) false) (c .before .before .before .before .before .if3 .left), le-leb _ _ (c .before .before .if4 .left), le-leb _ _ (c .if5 .left)))
+returns-6 c rows programmed = let d = c .before .before .before .before .before .before .before .before .before in rw (not-false (flag (start d)) (c .before .before .before .before .before .before .if3 .left), le-leb _ _ (c .before .before .before .if4 .left), le-leb _ _ (c .if5 .left)) at (left d rows programmed)
 
 pub pre-legal-spec : {M : Type 1} → statement M
 pre-legal-spec =
@@ -61,11 +91,11 @@ pre-legal-spec =
     settled-requires
     returns-2
     cast-b
-    array-read-if3
+    element-copy-out-if3
     returns-3
-    array-read-if4
+    element-copy-out-if4
     returns-4
     add-if5
-    array-read-if5
+    element-copy-out-if5
     returns-5
     returns-6)

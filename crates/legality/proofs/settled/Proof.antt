@@ -2,7 +2,7 @@
 use borrow.Author.Needs.{needs}
 use Rattle.legality.proofs.settled.Statement.{statement}
 use Rattle.legality.proofs.settled.Tie as tie
-use Rattle.legality.specs.Settled.{settledOf}
+use Rattle.legality.specs.Verdict.{settledOf}
 use borrow.Author.Tests.{le-leb, lt-leb}
 
 element-copy-out-if1 : tie.Need-element-copy-out-if1

@@ -1,43 +1,28 @@
 -- WRT's rules are READ's and then R10.
 use borrow.Author.Needs.{needs}
+use borrow.Author.Tests.{not-false}
 use Rattle.legality.proofs.wrt_legal.Statement.{statement}
 use Rattle.legality.proofs.wrt_legal.Tie as tie
-use Rattle.legality.proofs.Hold.{wrt-is}
-use borrow.Author.Tests.{le-leb, lt-leb, not-false, not-true}
+use Rattle.legality.proofs.Hold.{wrt-is, failed}
 
 read-legal-requires : tie.Need-read-legal-requires
 read-legal-requires c κs = search needs
 
 returns : tie.Need-returns
-returns c = rw wrt-is (simp (← c .before .read-legal .ensures, not-true (c .before .read-legal .result) (c .if1 .taken)))
+returns c rows programmed = rw (wrt-is, failed (c .before .read-legal .ensures rows programmed) (c .if1 .taken))
 
-element-copy-out-if2 : tie.Need-element-copy-out-if2
-element-copy-out-if2 c = search needs
+element-copy-out-read-to-write : tie.Need-element-copy-out-read-to-write
+element-copy-out-read-to-write c = search needs
 
-cast-if2 : tie.Need-cast-if2
-cast-if2 c = search needs
-
-cast-if2-2 : tie.Need-cast-if2-2
-cast-if2-2 c = search needs
-
-add-if2 : tie.Need-add-if2
-add-if2 c = search needs
+read-to-write-requires : tie.Need-read-to-write-requires
+read-to-write-requires c κs = search needs
 
 returns-2 : tie.Need-returns-2
-returns-2 c = rw wrt-is (simp (← c .before .before .before .before .read-legal .ensures, not-false (c .before .before .before .before .read-legal .result) (c .before .before .before .if1 .left), lt-leb _ _ (c .if2 .taken)))
-
-returns-3 : tie.Need-returns-3
-returns-3 c = rw wrt-is (simp (← c .before .before .before .before .read-legal .ensures, not-false (c .before .before .before .before .read-legal .result) (c .before .before .before .if1 .left), le-leb _ _ (c .if2 .left)))
+returns-2 c rows programmed =
+    let d = c .before .before in
+    rw (wrt-is, ← d .before .read-legal .ensures rows programmed, not-false (d .before .read-legal .result) (d .if1 .left)) (c .read-to-write .ensures)
 
 pub wrt-legal-spec : {M : Type 1} → statement M
 wrt-legal-spec =
     tie.close
-    (tie.spec
-    read-legal-requires
-    returns
-    element-copy-out-if2
-    cast-if2
-    cast-if2-2
-    add-if2
-    returns-2
-    returns-3)
+    (tie.spec read-legal-requires returns element-copy-out-read-to-write read-to-write-requires returns-2)

@@ -10,23 +10,23 @@ sound-requires c κs = search needs
 
 returns : tie.Need-returns
 unfolding stateBy
-returns c = simp (← c .before .sound .ensures, not-true (c .before .sound .result) (c .if1 .taken))
+returns c ages rows must = simp (← c .before .sound .ensures, not-true (c .before .sound .result) (c .if1 .taken))
 
 returns-2 : tie.Need-returns-2
 unfolding stateBy
-returns-2 c = simp (← c .before .before .sound .ensures, not-false (c .before .before .sound .result) (c .before .if1 .left), lt-leb _ _ (c .if2 .taken))
+returns-2 c ages rows must = simp (← c .before .before .sound .ensures, not-false (c .before .before .sound .result) (c .before .if1 .left), lt-leb _ _ (c .if2 .taken))
 
 action-sound-requires : tie.Need-action-sound-requires
 action-sound-requires c κs = search needs
 
 returns-3 : tie.Need-returns-3
 unfolding stateBy
-returns-3 c =
+returns-3 c ages rows must =
     simp (
       ← c .before .before .before .sound .ensures,
       not-false (c .before .before .before .sound .result) (c .before .before .if1 .left),
       le-leb _ _ (c .before .if2 .left),
-      ← c .action-sound .ensures,
+      ← c .action-sound .ensures rows,
     )
 
 pub state-sound-spec : {M : Type 1} → statement M

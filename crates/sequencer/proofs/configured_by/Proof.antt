@@ -6,7 +6,7 @@ use Rattle.sequencer.proofs.configured_by.Statement.{statement}
 use Rattle.sequencer.proofs.configured_by.Tie as tie
 
 started-with-requires : tie.Need-started-with-requires
-started-with-requires c κs = search needs
+started-with-requires c κs = c .before .before .before .pre (c .before .if1 .taken)
 
 returns : tie.Need-returns
 unfolding configuredBy

@@ -1,7 +1,11 @@
--- The cell is that of the request.
+-- The request is the one at the place, and the cell is its address's.
 use borrow.Author.Needs.{needs}
 use Rattle.service.proofs.access.Statement.{statement}
 use Rattle.service.proofs.access.Tie as tie
+use Rattle.plan.specs.Plan.{planOf}
+
+request-at-requires : tie.Need-request-at-requires
+request-at-requires c κs = search needs
 
 cell-requires : tie.Need-cell-requires
 cell-requires c κs = search needs
@@ -10,7 +14,8 @@ access-to-requires : tie.Need-access-to-requires
 access-to-requires c κs = search needs
 
 returns : tie.Need-returns
-returns c = simp (← c .before .cell .ensures, ← c .access-to .ensures)
+unfolding planOf
+returns c = rw (← c .before .before .before .before .before .before .request-at .ensures, ← c .before .before .before .before .cell .ensures) (c .access-to .ensures)
 
 pub access-spec : {M : Type 1} → statement M
-access-spec = tie.close (tie.spec cell-requires access-to-requires returns)
+access-spec = tie.close (tie.spec request-at-requires cell-requires access-to-requires returns)

@@ -1,10 +1,9 @@
--- The bank's open row and the two tests are the definition's.
+-- By the bank's open row: none, the wanted one, another.
 use borrow.Author.Needs.{needs}
 use Rattle.service.proofs.access_to.Statement.{statement}
 use Rattle.service.proofs.access_to.Tie as tie
-use Rattle.plan.specs.Plan.{tries, accessPlan}
-use Rattle.ages.specs.Ages.{rowAt}
-use Rattle.service.specs.Serve.{conductedOf}
+use Rattle.plan.specs.Plan.{accessPlan}
+use Rattle.ages.specs.Ages.{openRows}
 use borrow.Author.Tests.{eq-eqb, ne-eqb}
 
 is-open-requires : tie.Need-is-open-requires
@@ -17,28 +16,22 @@ transfer-requires : tie.Need-transfer-requires
 transfer-requires c κs = search needs
 
 returns : tie.Need-returns
-unfolding accessPlan rowAt
-returns c = simp (← c .before .before .before .before .before .before .is-open .ensures, c .before .before .before .before .before .if1 .taken, ← c .before .before .before .before .row-in .ensures, eq-eqb _ _ (c .before .if2 .taken), ← c .transfer .ensures)
+unfolding accessPlan openRows
+returns c = rw (← c .before .before .before .before .before .before .before .before .before .is-open .ensures, c .before .before .before .before .before .before .before .before .if1 .taken, ← c .before .before .before .before .before .before .row-in .ensures, eq-eqb _ _ (c .before .before .before .if2 .taken)) (c .transfer .ensures _ _)
 
-pre-legal-requires : tie.Need-pre-legal-requires
-pre-legal-requires c κs = search needs
-
-tried-requires : tie.Need-tried-requires
-tried-requires c κs = search needs
+precharge-requires : tie.Need-precharge-requires
+precharge-requires c κs = search needs
 
 returns-2 : tie.Need-returns-2
-unfolding conductedOf accessPlan rowAt tries
-returns-2 c = simp (← c .before .before .before .before .before .before .before .is-open .ensures, c .before .before .before .before .before .before .if1 .taken, ← c .before .before .before .before .before .row-in .ensures, ne-eqb _ _ (c .before .before .if2 .left), ← c .before .pre-legal .ensures, ← c .tried .ensures)
+unfolding accessPlan openRows
+returns-2 c = rw (← c .before .before .before .before .before .before .before .before .before .is-open .ensures, c .before .before .before .before .before .before .before .before .if1 .taken, ← c .before .before .before .before .before .before .row-in .ensures, ne-eqb _ _ (c .before .before .before .if2 .left)) (c .precharge .ensures _ _)
 
-act-legal-requires : tie.Need-act-legal-requires
-act-legal-requires c κs = search needs
-
-tried-requires-2 : tie.Need-tried-requires-2
-tried-requires-2 c κs = search needs
+activate-requires : tie.Need-activate-requires
+activate-requires c κs = search needs
 
 returns-3 : tie.Need-returns-3
-unfolding conductedOf accessPlan rowAt tries
-returns-3 c = simp (← c .before .before .before .is-open .ensures, c .before .before .if1 .left, ← c .before .act-legal .ensures, ← c .tried2 .ensures)
+unfolding accessPlan openRows
+returns-3 c = rw (← c .before .before .before .before .before .is-open .ensures, c .before .before .before .before .if1 .left) (c .activate .ensures)
 
 pub access-to-spec : {M : Type 1} → statement M
 access-to-spec =
@@ -48,9 +41,7 @@ access-to-spec =
     row-in-requires
     transfer-requires
     returns
-    pre-legal-requires
-    tried-requires
+    precharge-requires
     returns-2
-    act-legal-requires
-    tried-requires-2
+    activate-requires
     returns-3)

@@ -1,8 +1,8 @@
--- The kind picks the definition's case.
+-- By the kind.
 use borrow.Author.Needs.{needs}
 use Rattle.service.proofs.transfer.Statement.{statement}
 use Rattle.service.proofs.transfer.Tie as tie
-use Rattle.plan.specs.Plan.{transferPlan}
+use Rattle.plan.specs.Plan.{writePlan, transferPlan}
 
 enum-told : tie.Need-enum-told
 enum-told c = search needs
@@ -18,11 +18,11 @@ write-requires c κs = search needs
 
 returns : tie.Need-returns
 unfolding transferPlan
-returns c = simp (c .before .enum-told .given .1, ← c .read .ensures)
+returns c rows programmed = rw (c .before .before .enum-told .given .1) (c .read .ensures rows programmed)
 
 returns-2 : tie.Need-returns-2
-unfolding transferPlan
-returns-2 c = simp (c .before .enum-told2 .given .1, ← c .write .ensures)
+unfolding transferPlan writePlan
+returns-2 c rows programmed = rw (c .before .before .enum-told2 .given .1) (c .write .ensures rows programmed)
 
 pub transfer-spec : {M : Type 1} → statement M
 transfer-spec =

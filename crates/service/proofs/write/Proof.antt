@@ -1,22 +1,47 @@
--- The definition's command and outcome; its halfword does not decide whether it is legal.
+-- Legal: sent and noted; not legal: a NOP, and nothing is noted.
 use borrow.Author.Needs.{needs}
 use Rattle.service.proofs.write.Statement.{statement}
 use Rattle.service.proofs.write.Tie as tie
+use Prim.Native.Nat.{ℕ}
+use mathlib.Core.Path.{_≡_, refl, sym, _∙_}
+use mathlib.Core.Bool.{Bool}
+use mathlib.Core.List.{List}
+use denote.Ref.{now}
+use Rattle.command.specs.declared.Command.the-variants.{Wrt}
+use Rattle.device.specs.Rules.{legalOf}
+use Rattle.ages.specs.Ages.{pastOf, byAges}
 use Rattle.plan.specs.Plan.{writePlan}
 use Rattle.legality.proofs.Hold.{wrt-any}
-use Rattle.service.specs.Serve.{conductedOf}
+use Rattle.service.specs.Serve.{carriedWith}
+use Rattle.aging.specs.Noted.{notedAges, notedOpen, notedRows, notedMode, notedOf}
+use Rattle.service.proofs.Laws.{sent, refused}
 
 wrt-legal-requires : tie.Need-wrt-legal-requires
 wrt-legal-requires c κs = search needs
 
-carried-out-requires : tie.Need-carried-out-requires
-carried-out-requires c κs = search needs
+note-wrt-requires : tie.Need-note-wrt-requires
+note-wrt-requires c κs = search needs
+
+-- the halfword doesn't matter
+any : (s : tie.Start) (rows : List ℕ) (programmed : Bool) → let x = s .args in let v = byAges (x .c) (pastOf (now (x .ages)) (now (x .opened)) rows programmed) in
+    legalOf (x .c) v (Wrt (x .cell .bank) (x .cell .column) (x .r .halfword)) ≡ legalOf (x .c) v (Wrt (x .cell .bank) (x .cell .column) 0)
+any s rows programmed =
+    let x = s .args in
+    wrt-any (x .c) (pastOf (now (x .ages)) (now (x .opened)) rows programmed) (x .cell .bank) (x .cell .column) (x .r .halfword) 0
 
 returns : tie.Need-returns
-unfolding conductedOf writePlan
-returns c =
-    let a = c .before .before .before .before .args in
-    simp (wrt-any (a .c) (a .p) (a .cell .bank) (a .cell .column) (a .r .halfword) 0, ← c .before .wrt-legal .ensures, ← c .carried-out .ensures)
+unfolding writePlan carriedWith notedOf notedAges notedOpen notedRows notedMode
+returns c rows programmed =
+    sent (any (c .before .before .before .before .before .before .before) rows programmed ∙ sym (c .before .before .before .wrt-legal .ensures rows programmed) ∙ c .before .before .if1 .taken) refl (rw (c .note-wrt .ensures))
+
+rest-requires : tie.Need-rest-requires
+rest-requires c κs = search needs
+
+returns-2 : tie.Need-returns-2
+unfolding writePlan
+returns-2 c rows programmed =
+    refused (any (c .before .before .before .before .before .before) rows programmed ∙ sym (c .before .before .wrt-legal .ensures rows programmed) ∙ c .before .if1 .left) (c .rest .ensures)
 
 pub write-spec : {M : Type 1} → statement M
-write-spec = tie.close (tie.spec wrt-legal-requires carried-out-requires returns)
+write-spec =
+    tie.close (tie.spec wrt-legal-requires note-wrt-requires returns rest-requires returns-2)

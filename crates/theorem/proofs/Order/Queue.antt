@@ -78,7 +78,7 @@ put-other : {A : Type 0} (f : ℕ → A) (at : ℕ) (v : A) (n : ℕ) → (n ≡
 put-other f at v n e = rw (ne-eqb n at e)
 
 module _ {g : Geometry} {q : Queue} {a : Action} {n : ℕ} {d : Sdram} {f : Flat} {reported : List ℕ} (o : Ordered g q a n d f reported)
-    (kind : Kind) (address halfword : ℕ) (room : q .count < 8) where
+    (kind : Kind) (address halfword : ℕ) (fits : halfword < 65536) (room : q .count < 8) where
   abbrev new : Request
   new = requestFor kind (n + 1) address halfword
 
@@ -96,10 +96,10 @@ module _ {g : Geometry} {q : Queue} {a : Action} {n : ℕ} {d : Sdram} {f : Flat
 
   -- the action under way goes on
   at-arrive : (i : ℕ) → i < length (heldOf q) → getD (heldOf (acceptOf q new)) i noRequest ≡ getD (heldOf q) i noRequest
-  at-arrive i h = rw (held-accept new (o .tidy) room) (List·getD-append (heldOf q) (new ∷ []) noRequest i h)
+  at-arrive i h = rw (held-accept new fits (o .tidy) room) (List·getD-append (heldOf q) (new ∷ []) noRequest i h)
 
   servable-accept : (i : ℕ) → Servable (heldOf q) i → Servable (heldOf (acceptOf q new)) i
-  servable-accept i s = rw (held-accept new (o .tidy) room) (servable-arrive (new ∷ []) s)
+  servable-accept i s = rw (held-accept new fits (o .tidy) room) (servable-arrive (new ∷ []) s)
 
   coming-accept : (i left : ℕ) → Coming q d f i left → Coming (acceptOf q new) d flat i left
   coming-accept i left v =
@@ -141,7 +141,7 @@ module _ {g : Geometry} {q : Queue} {a : Action} {n : ℕ} {d : Sdram} {f : Flat
   unfolding taken
   ordered-request valid =
       let ok = address-good g address valid in
-      let e = held-accept new (o .tidy) room in
+      let e = held-accept new fits (o .tidy) room in
       record {
         tidy = tidy-accept new (o .tidy);
         good = rw e (each-append (o .good) (more ok none));

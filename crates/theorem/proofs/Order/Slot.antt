@@ -6,7 +6,7 @@ use mathlib.Core.List.{List, _∷_, List·Memᴰ, List·Memᴰ·cases-cons}
 use mathlib.Core.Option.{Option, none, some}
 use mathlib.Core.Logic.{_⊎_, inl, inr}
 use native.Mathlib.Omega.{arith}
-use borrow.Author.Tests.{leb-true, leb-false, eq-eqb, lt-ltb}
+use borrow.Author.Tests.{leb-true, leb-false, eq-eqb}
 use lib.Dec.{eqb, leb}
 use lib.ListN.{length, getD}
 use Rattle.config.specs.declared.Config.{Config}
@@ -26,8 +26,8 @@ use Rattle.ages.proofs.Agree.{Agrees, same-verdict}
 use Rattle.queue.specs.declared.Kind.{Kind}
 use Rattle.queue.specs.declared.Queue.{Queue}
 use Rattle.queue.specs.declared.Request.{Request}
-use Rattle.queue.specs.Places.{cellFor, heldOf, noRequest, getOf, removeOf, without}
-use Rattle.queue.proofs.Order.{Each, Servable}
+use Rattle.queue.specs.Places.{cellFor, heldOf, noRequest, getOf, removeOf}
+use Rattle.queue.proofs.Order.{Each, Servable, without}
 use Rattle.queue.proofs.Consistent.{applied, ReadsRight, Consistent}
 use Rattle.queue.proofs.Each.{each-without, each-at, each-map}
 use Rattle.queue.proofs.Tidy.{Tidy, tidy-length, tidy-remove, held-remove, get-held}
@@ -120,9 +120,10 @@ module _ {g : Geometry} {q : Queue} {a : Action} {n : ℕ} {d : Sdram} {f : Flat
   ordered-removed : {d′ : Sdram} {b : Action} → ((x : ℕ) → Ok g x → applied (seen g (d .cells)) r x ≡ seen g (d′ .cells) x)
       → Doing (removeOf q i) d′ f b → Ordered g (removeOf q i) b n d′ f (r .number ∷ reported)
   ordered-removed {d′} {b} m v =
-      let h = held-remove i (o .tidy) (omega (arith, s .within, tidy-length (o .tidy))) in
+      let k : i < q .count = omega (arith, s .within, tidy-length (o .tidy)) in
+      let h = held-remove i (o .tidy) k in
       record {
-        tidy = tidy-remove i (o .tidy);
+        tidy = tidy-remove i (o .tidy) k;
         good = rw h (each-without i (o .good));
         rising = rw h (rising-remove i (o .rising));
         counted = o .counted;
@@ -148,7 +149,7 @@ module _ {g : Geometry} {q : Queue} {a : Action} {n : ℕ} {d : Sdram} {f : Flat
 -- a report takes one request out of the queue
 remove-count : (q : Queue) (i : ℕ) → i < length (heldOf q) → Tidy q → removeOf q i .count + 1 ≡ q .count
 unfolding removeOf
-remove-count q i h t = rw (lt-ltb i (length (heldOf q)) h) (omega (arith, tidy-length t, h))
+remove-count q i h t = omega (arith, tidy-length t, h)
 
 -- what a slot leaves, with the request under way at place `at`, and that its report is right
 pub record Acted (c : Config) (n : ℕ) (q : Queue) (at : ℕ) (d : Sdram) (f : Flat) (reported : List ℕ) (s : Served) : Type 0 where

@@ -1,43 +1,25 @@
--- Each part of the slot is what its own function gives.
+-- A number refuses the slot; with 0 it is carried out.
 use borrow.Author.Needs.{needs}
 use Rattle.turn.proofs.turn.Statement.{statement}
 use Rattle.turn.proofs.turn.Tie as tie
-use Rattle.turn.specs.Parts.{actionOf, planned, givenOf, turnedOf}
+use Rattle.turn.specs.Parts.{turnedOf}
+use borrow.Author.Tests.{eq-eqb, ne-eqb}
 
-ticked-requires : tie.Need-ticked-requires
-ticked-requires c κs = search needs
-
-current-requires : tie.Need-current-requires
-current-requires c κs = search needs
-
-place-requires : tie.Need-place-requires
-place-requires c κs = search needs
-
-get-requires : tie.Need-get-requires
-get-requires c κs = search needs
-
-serve-requires : tie.Need-serve-requires
-serve-requires c κs = search needs
-
-sent-requires : tie.Need-sent-requires
-sent-requires c κs = search needs
-
-counters-after-requires : tie.Need-counters-after-requires
-counters-after-requires c κs = search needs
+refused-requires : tie.Need-refused-requires
+refused-requires c κs = search needs
 
 returns : tie.Need-returns
-unfolding turnedOf actionOf planned givenOf
-returns c = simp (← c .before .before .before .before .before .before .before .ticked .ensures, ← c .before .before .before .before .before .before .current .ensures, ← c .before .before .before .before .before .place .ensures, ← c .before .before .before .before .get .ensures, ← c .before .before .before .serve .ensures, ← c .before .sent .ensures, ← c .counters-after .ensures)
+unfolding turnedOf
+returns c = rw (ne-eqb _ _ (c .before .if1 .taken), c .refused .ensures)
+
+step-requires : tie.Need-step-requires
+step-requires c κs =
+    let e = c .before .before .before .before .before in
+    (e .before .pre .0 (e .if1 .left), e .before .pre .1)
+
+returns-2 : tie.Need-returns-2
+unfolding turnedOf
+returns-2 c = rw (eq-eqb _ _ (c .before .before .before .before .before .before .if1 .left)) (c .step .ensures)
 
 pub turn-spec : {M : Type 1} → statement M
-turn-spec =
-    tie.close
-    (tie.spec
-    ticked-requires
-    current-requires
-    place-requires
-    get-requires
-    serve-requires
-    sent-requires
-    counters-after-requires
-    returns)
+turn-spec = tie.close (tie.spec refused-requires returns step-requires returns-2)

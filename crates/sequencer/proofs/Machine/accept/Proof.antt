@@ -1,8 +1,8 @@
 -- The queue is what `accept` of the queue gives; the other fields are copied.
 use borrow.Author.Needs.{needs}
-use Rattle.sequencer.specs.Calls.{enqueuedOf}
 use Rattle.sequencer.proofs.Machine.accept.Statement.{statement}
 use Rattle.sequencer.proofs.Machine.accept.Tie as tie
+use Rattle.sequencer.specs.Calls.{enqueuedOf}
 
 accept-requires : tie.Need-accept-requires
 accept-requires c κs = search needs

@@ -1,5 +1,8 @@
--- The two calls are the definition's two steps.
+-- The two calls are the definition's two steps; an accepted configuration keeps RR in its bounds.
 use borrow.Author.Needs.{needs}
+use mathlib.Core.Path.{sym, ap, _∙_}
+use Rattle.config.specs.declared.Setting.{Setting}
+use Rattle.config.proofs.Laws.{accepted}
 use Rattle.sequencer.specs.Calls.{configureOf}
 use Rattle.sequencer.proofs.Machine.configure.Statement.{statement}
 use Rattle.sequencer.proofs.Machine.configure.Tie as tie
@@ -8,7 +11,9 @@ configure-requires : tie.Need-configure-requires
 configure-requires c κs = search needs
 
 configured-by-requires : tie.Need-configured-by-requires
-configured-by-requires c κs = search needs
+configured-by-requires c κs h =
+    let a = accepted _ _ _ _ (sym (ap (λ (s : Setting). s .number) (c .configure .ensures)) ∙ h) in
+    rw (c .configure .ensures, a .0) (a .1 .rr-most)
 
 returns : tie.Need-returns
 unfolding configureOf

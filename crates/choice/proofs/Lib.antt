@@ -1,0 +1,2 @@
+-- A slot's action and Must run.
+pub mod Laws

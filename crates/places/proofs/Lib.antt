@@ -1,0 +1,2 @@
+-- A turn of a loop.
+pub mod Shifting

@@ -1,0 +1,58 @@
+-- Each step is what its own function ensures.
+use borrow.Author.Needs.{needs}
+use Rattle.turn.proofs.step.Statement.{statement}
+use Rattle.turn.proofs.step.Tie as tie
+use mathlib.Core.Path.{_∙_}
+use Rattle.aging.specs.Noted.{elapsedOf}
+use Rattle.turn.proofs.Laws.{step-is}
+
+ticked-requires : tie.Need-ticked-requires
+ticked-requires c κs = search needs
+
+must-after-requires : tie.Need-must-after-requires
+must-after-requires c κs = search needs
+
+current-requires : tie.Need-current-requires
+current-requires c κs = search needs
+
+serve-requires : tie.Need-serve-requires
+serve-requires c κs = search needs
+
+place-requires : tie.Need-place-requires
+place-requires c κs = search needs
+
+counters-after-requires : tie.Need-counters-after-requires
+counters-after-requires c κs = search needs
+
+queue-after-requires : tie.Need-queue-after-requires
+queue-after-requires c κs = search needs
+
+elapse-requires : tie.Need-elapse-requires
+elapse-requires c κs = search needs
+
+returns : tie.Need-returns
+unfolding elapsedOf
+returns c =
+    let s = c .before .before .before .before .before .before .before .before .before .before .before .before .before .before .before .before .before in
+    step-is _ _ _ _ _ _ _ (s .pre .1 .0) (s .pre .1 .1) (s .pre .1 .2)
+    (c .before .before .before .before .before .before .before .before .before .before .before .before .before .before .before .before .ticked .ensures)
+    (c .before .before .before .before .before .before .before .before .before .before .before .before .before .before .before .must-after .ensures)
+    (c .before .before .before .before .before .before .before .before .before .before .before .before .current .ensures _)
+    (c .before .before .before .before .before .before .serve .ensures)
+    (c .before .before .before .before .counters-after .ensures)
+    (c .before .before .queue-after .ensures ∙ rw (c .before .before .before .before .before .place .ensures))
+    (rw (c .elapse .ensures))
+
+pub step-spec : {M : Type 1} → statement M
+step-spec =
+    tie.close
+    (tie.spec
+    ticked-requires
+    must-after-requires
+    current-requires
+    serve-requires
+    place-requires
+    counters-after-requires
+    queue-after-requires
+    elapse-requires
+    returns)
