@@ -13,7 +13,7 @@ pub const CAP: u8 = 32;
 
 // What is kept of the past commands. An age is in slots, as the next slot sees it: 1 after the command's own slot, 32 at most, and 32 if
 // there was none. The ages: ACT of each bank, its PRE or any DEAC, WRT to it; then REFR, MRS, any PRE or DEAC, READ. They, the flags and the rows
-// are arrays of numbers and bools, so that a slot can change them in place.
+// are arrays of numbers and bools, which can be lent, so that a slot changes them in place.
 pub struct Past {
     pub ages: [u8; 16],
     // Is the bank open, and with which row?

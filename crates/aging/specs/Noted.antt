@@ -9,7 +9,7 @@ use Rattle.command.specs.declared.Command.the-variants.{Nop, Act, Read, Wrt, Pr
 use Rattle.ages.specs.declared.Past.{Past}
 use Rattle.ages.specs.Ages.{pastOf, agedOf}
 
--- a row of four, that begins at a place, with a value for bank b; as it was for a bank that no device has
+-- a list in which four elements from a place on are the four banks', with a value for bank b; as it was for a bank that no device has
 abbrev pub atBank : {A : Type 0} → List A → ℕ → ℕ → A → List A
 atBank l from b x = cond (ltb b 4) (set l (from + b) x) l
 

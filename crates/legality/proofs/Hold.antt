@@ -10,13 +10,10 @@ use Rattle.address.specs.declared.Bank.{Bank}
 use Rattle.address.specs.declared.Row.{Row}
 use Rattle.address.specs.declared.Column.{Column}
 use Rattle.config.specs.declared.Config.{Config}
-use Rattle.config.specs.Accepted.{Shaped}
 use Rattle.command.specs.declared.Command.the-variants.{Act, Read, Wrt, Pre, Deac, Refr, Mrs}
 use Rattle.device.specs.View.{isSome, allClosed}
 use Rattle.device.specs.Rules.{R7, R10, R12-open, R13-open, R14, allHold, requirements, legalOf}
-use Rattle.device.proofs.Tests.{both}
 use Rattle.device.proofs.Alike.{hold-append}
-use Rattle.device.proofs.Alike.{in-four}
 use Rattle.ages.specs.declared.Past.{Past}
 use Rattle.ages.proofs.Record.{open-here}
 use Rattle.ages.specs.Ages.{rowAt, byAges}

@@ -1,6 +1,6 @@
 -- The plain SDRAM rejects a command that is not legal and keeps everything, computed on E4's device with cells that all hold 5: a command of each
 -- kind in the slot after an ACT, then a READ and a WRT as soon as they are legal.
-use Prim.Native.Nat.{ℕ, suc}
+use Prim.Native.Nat.{suc}
 use mathlib.Core.Path.{_≡_, refl}
 use mathlib.Core.Bool.{true, false}
 use mathlib.Core.List.{List, [], _∷_, map}

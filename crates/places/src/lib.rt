@@ -38,6 +38,7 @@ fn blank() -> Request
     }
 }
 
+// The empty queue: all places are blank.
 pub fn empty() -> Queue
     ensures { λ r. ⌜ r ≡ emptyOf ⌝ }
 {

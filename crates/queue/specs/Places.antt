@@ -3,7 +3,7 @@ use Prim.Native.Nat.{ℕ, zero, suc, _+_, _-_, _%_}
 use mathlib.Core.Bool.{cond}
 use mathlib.Core.List.{List, [], _∷_}
 use lib.Dec.{leb, ltb}
-use lib.ListN.{getD, take, drop, set, replicate}
+use lib.ListN.{getD, take, set, replicate}
 use Rattle.config.specs.declared.Geometry.{Geometry}
 use Rattle.address.specs.declared.Cell.{Cell}
 use Rattle.address.specs.Map.{cellOf}

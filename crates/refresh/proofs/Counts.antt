@@ -11,7 +11,7 @@ use native.Mathlib.Omega.{arith}
 use lib.Dec.{leb}
 use borrow.Author.Tests.{eq-eqb, ne-eqb, le-leb, lt-leb, lt-ltb, le-ltb, leb-true}
 use Rattle.refresh.specs.declared.Counters.{Counters}
-use Rattle.refresh.specs.Counting.{startOf, expiresOf, tickOf, refreshedOf, expiriesOf, soundCounters}
+use Rattle.refresh.specs.Counting.{startOf, tickOf, refreshedOf, expiriesOf, soundCounters}
 
 -- What a tick and a refresh do.
 

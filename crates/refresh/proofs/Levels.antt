@@ -1,6 +1,6 @@
 -- The levels by their ranges, both ways, and the Must run by the backlog (document 01, "A service slot").
 -- Each test of a definition is decided by the range that its backlog lies in.
-use mathlib.Core.Path.{_≡_, refl, sym, subst, _∙_}
+use mathlib.Core.Path.{_≡_, refl, sym, _∙_}
 use mathlib.Core.Bool.{Bool, true, false, cond, true≢false, false≢true}
 use Prim.Native.Nat.{ℕ, _≤_}
 use native.Mathlib.Omega.{arith}

@@ -1,5 +1,4 @@
 -- The two tests are the definition's.
-use borrow.Author.Needs.{needs}
 use Rattle.numbers.proofs.room_number.Statement.{statement}
 use Rattle.numbers.proofs.room_number.Tie as tie
 use Rattle.numbers.specs.Numbers.{roomNumberOf}
