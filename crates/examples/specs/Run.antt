@@ -16,7 +16,7 @@ use Rattle.plan.specs.Slot.{tickedOf}
 use Rattle.sequencer.specs.declared.Machine.{Machine}
 use Rattle.sequencer.specs.declared.Slot.{Slot}
 use Rattle.sequencer.specs.Calls.{readRequestOf, writeRequestOf, slotOf}
-use Rattle.model.specs.World.{Call, read, write, slot, backlog}
+use Rattle.model.specs.World.{Call, read, write, slot, slots, backlog}
 
 pub data Event : Type 0 where
   -- a slot carries this command
@@ -64,6 +64,7 @@ requested m [] = m
 requested m (read a ∷ ks) = requested (readRequestOf m a .machine) ks
 requested m (write a h ∷ ks) = requested (writeRequestOf m a h .machine) ks
 requested m (slot b ∷ ks) = requested m ks
+requested m (slots b k r ∷ ks) = requested m ks
 requested m (backlog ∷ ks) = requested m ks
 
 -- the numbers that reports carry, in order

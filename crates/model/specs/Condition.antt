@@ -4,10 +4,10 @@
 use Prim.Native.Nat.{ℕ, _+_, _-_, _*_, _%_, _^_, _≤_, _<_}
 use mathlib.Core.Path.{_≡_}
 use mathlib.Core.Bool.{Bool, true, cond, _&&_}
-use mathlib.Core.List.{List, [], _∷_, List·Memᴰ}
+use mathlib.Core.List.{List, [], _∷_, _++_, map, List·Memᴰ}
 use mathlib.Core.Option.{Option, none, some}
 use lib.Dec.{eqb, leb}
-use lib.ListN.{length}
+use lib.ListN.{length, drop}
 use Rattle.config.specs.declared.Config.{Config}
 use Rattle.config.specs.Setting.{configOf}
 use Rattle.command.specs.declared.Command.{Command}
@@ -26,8 +26,27 @@ use Rattle.sequencer.specs.declared.Requested.{Requested}
 use Rattle.sequencer.specs.declared.Slot.{Slot}
 use Rattle.numbers.specs.Numbers.{lastNumber}
 use Rattle.sequencer.specs.Calls.{configureOf, recordNumberOf, readRequestOf, writeRequestOf, backlogOf}
+use Rattle.packing.specs.Packing.{commandWord, reportWord}
+use Rattle.sequencer.specs.Batch.{Batch}
 use Rattle.model.specs.Sdram.{Cells, takes}
-use Rattle.model.specs.World.{World, halfwordOf, Call, read, write, slot, backlog, slotIn, startWorld, after}
+use Rattle.model.specs.World.{
+  World,
+  halfwordOf,
+  Call,
+  read,
+  write,
+  slot,
+  slots,
+  backlog,
+  slotIn,
+  afterSlot,
+  afterSlots,
+  countOf,
+  anyOf,
+  batchIn,
+  startWorld,
+  after,
+}
 
 -- Service slots and their REFRs, off the SDRAM's history.
 
@@ -132,6 +151,24 @@ pub record Carried (c : Config) (w : World) (s : Slot) : Type 0 where
   pub within : InBounds (expiries c (w .sdram .log .now + 1) - refreshes c w)
   pub counted : inService (w .machine .control .action) ≡ true → tickOf (w .machine .counters) (c .rr) .backlog ≡ expiries c (w .sdram .log .now + 1) - refreshes c w
 
+-- Many slots: what each gives, one after the other; each is right, and so is the world before it and after the last.
+abbrev pub eachIn : Config → World → List ℕ → List Slot
+eachIn c w [] = []
+eachIn c w (any ∷ later) = slotIn w any ∷ eachIn c (afterSlot c w (slotIn w any)) later
+
+abbrev pub EachCarried : Config → World → List ℕ → Type 0
+EachCarried c w [] = Standing c w
+EachCarried c w (any ∷ later) = Standing c w × Carried c w (slotIn w any) × EachCarried c (afterSlot c w (slotIn w any)) later
+
+-- The call gives what they give, in words, and leaves what is behind these.
+pub record CarriedAll (c : Config) (w : World) (bus commands reports : List ℕ) (r : Batch) : Type 0 where
+  pub answered : r .number ≡ 0
+  pub counted : r .count ≡ countOf bus commands reports
+  pub machine : r .machine ≡ afterSlots c w (anyOf bus commands reports) .machine
+  pub commands-sent : r .commands ≡ map (λ s. commandWord (s .command)) (eachIn c w (anyOf bus commands reports)) ++ drop (countOf bus commands reports) commands
+  pub reports-given : r .reports ≡ map (λ s. reportWord (s .report)) (eachIn c w (anyOf bus commands reports)) ++ drop (countOf bus commands reports) reports
+  pub each : EachCarried c w (anyOf bus commands reports)
+
 -- The reading call gives exactly the backlog.
 pub record Exact (c : Config) (w : World) (r : Reading) : Type 0 where
   pub answered : r .number ≡ 0
@@ -141,6 +178,7 @@ abbrev pub Right : Config → World → Call → Type 0
 Right c w (read a) = Answered c w a (readRequestOf (w .machine) a)
 Right c w (write a h) = Answered c w a (writeRequestOf (w .machine) a (halfwordOf h))
 Right c w (slot any) = Carried c w (slotIn w any)
+Right c w (slots bus commands reports) = CarriedAll c w bus commands reports (batchIn c w bus commands reports)
 Right c w backlog = Exact c w (backlogOf (w .machine))
 
 -- The claim about a list of calls from a world on.

@@ -1,7 +1,8 @@
 -- Every list of calls on one machine from its accepted configuration on, beside the plain SDRAM and the flat memory.
 use Prim.Native.Nat.{ℕ, _%_}
-use mathlib.Core.List.{List, [], _∷_}
+use mathlib.Core.List.{List, [], _∷_, _++_}
 use mathlib.Core.Option.{Option, none, some}
+use lib.ListN.{length, take, drop}
 use Rattle.config.specs.declared.Config.{Config}
 use Rattle.queue.specs.declared.Kind.{Kind}
 use Rattle.plan.specs.declared.Report.{Report}
@@ -10,6 +11,7 @@ use Rattle.sequencer.specs.declared.Machine.{Machine}
 use Rattle.sequencer.specs.declared.Requested.{Requested}
 use Rattle.sequencer.specs.declared.Slot.{Slot}
 use Rattle.sequencer.specs.Calls.{readRequestOf, writeRequestOf, slotOf}
+use Rattle.sequencer.specs.Batch.{Batch, roomOf, slotsOf}
 use Rattle.model.specs.Sdram.{Cells, Sdram, startSdram, drivenIn, sdramAfter}
 use Rattle.model.specs.Flat.{Flat, startFlat, flatAfter}
 
@@ -17,11 +19,13 @@ use Rattle.model.specs.Flat.{Flat, startFlat, flatAfter}
 abbrev pub halfwordOf : ℕ → ℕ
 halfwordOf n = n % 65536
 
--- a call with its arguments; a slot has the halfword that the bus carries if the SDRAM has none on it
+-- a call with its arguments; a slot has the halfword that the bus carries if the SDRAM has none on it, and many slots have one each, with what both arrays hold
+-- before the call
 pub data Call : Type 0 where
   read : (address : ℕ) → Call
   write : (address halfword : ℕ) → Call
   slot : (bus : ℕ) → Call
+  slots : (bus commands reports : List ℕ) → Call
   backlog : Call
 
 pub record World : Type 0 where
@@ -70,6 +74,37 @@ afterSlot c w s =
       reported = reportedAfter (s .report) (w .reported);
     }
 
+-- Many slots in one call (document 02, (i)) stand for the slots that it runs.
+
+-- the world after slots, one after the other
+unfoldable pub afterSlots : Config → World → List ℕ → World
+afterSlots c w [] = w
+afterSlots c w (any ∷ later) = afterSlots c (afterSlot c w (slotIn w any)) later
+
+-- and the halfwords that the bus carries in them, made slot by slot
+unfoldable pub busesOf : Config → World → List ℕ → List ℕ
+busesOf c w [] = []
+busesOf c w (any ∷ later) = busOf w any ∷ busesOf c (afterSlot c w (slotIn w any)) later
+
+-- how many slots the call runs, and the halfwords of these
+abbrev pub countOf : List ℕ → List ℕ → List ℕ → ℕ
+countOf bus commands reports = roomOf (length bus) (length commands) (length reports)
+
+abbrev pub anyOf : List ℕ → List ℕ → List ℕ → List ℕ
+anyOf bus commands reports = take (countOf bus commands reports) bus
+
+-- the array of halfwords that it is handed: those of its slots, and behind them any
+unfoldable pub handedOf : Config → World → List ℕ → List ℕ → List ℕ → List ℕ
+handedOf c w bus commands reports = busesOf c w (anyOf bus commands reports) ++ drop (countOf bus commands reports) bus
+
+-- what it gives
+unfoldable pub batchIn : Config → World → List ℕ → List ℕ → List ℕ → Batch
+batchIn c w bus commands reports = slotsOf (w .machine) (handedOf c w bus commands reports) commands reports
+
+-- the world after its slots, with the machine that it gives back
+unfoldable pub afterBatch : World → Batch → World
+afterBatch w r = record { machine = r .machine; sdram = w .sdram; flat = w .flat; reported = w .reported }
+
 unfoldable pub afterRequest : World → Kind → ℕ → ℕ → Requested → World
 afterRequest w kind address halfword r =
     record {
@@ -84,6 +119,7 @@ unfoldable pub after : Config → World → Call → World
 after c w (read a) = afterRequest w Kind.Read a 0 (readRequestOf (w .machine) a)
 after c w (write a h) = afterRequest w Kind.Write a (halfwordOf h) (writeRequestOf (w .machine) a (halfwordOf h))
 after c w (slot any) = afterSlot c w (slotIn w any)
+after c w (slots bus commands reports) = afterBatch (afterSlots c w (anyOf bus commands reports)) (batchIn c w bus commands reports)
 after c w backlog = w
 
 -- all calls of a list, the first one first

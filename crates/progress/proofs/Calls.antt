@@ -2,9 +2,12 @@
 -- record, and each slot of which takes one from the bound.
 use Prim.Native.Nat.{ℕ, _+_, _-_, _≤_, _<_}
 use mathlib.Core.Path.{_≡_, refl, ap, _∙_}
-use mathlib.Core.Bool.{true, false, true≢false}
+use mathlib.Core.Bool.{true, false, true≢false, _||_}
 use mathlib.Core.List.{List, [], _∷_}
 use native.Mathlib.Omega.{arith}
+use lib.ListN.{length}
+use lib.Seq.{length-take-le}
+use borrow.Author.Tests.{eq-eqb}
 use Rattle.device.proofs.Tests.{by-test}
 use Rattle.queue.specs.declared.Kind.{Kind}
 use Rattle.queue.specs.Places.{getOf}
@@ -28,11 +31,12 @@ use Rattle.sequencer.specs.declared.Machine.{Machine}
 use Rattle.sequencer.specs.Machine.{stepOf}
 use Rattle.sequencer.specs.Calls.{requestOf, slotOf}
 use Rattle.sequencer.proofs.Sound.{step-serves}
-use Rattle.model.specs.World.{Call, read, write, slot, backlog}
+use Rattle.sequencer.specs.Batch.{seriesOf, batchOf, slotsOf}
+use Rattle.model.specs.World.{Call, read, write, slot, slots, backlog, countOf, anyOf}
 use Rattle.theorem.proofs.Plans.{actedOf, afterOf, step-is}
-use Rattle.progress.specs.Calls.{afterCalls, slotsIn, chooses}
+use Rattle.progress.specs.Calls.{afterCalls, slotsIn, choosesIn, chooses}
 use Rattle.progress.proofs.Start.{startLeft, left-none, none-left, sooner}
-use Rattle.progress.proofs.Machine.{Live, slot-is, step-live, waiting, asked, goes-on, step-nearer}
+use Rattle.progress.proofs.Machine.{Live, live-number, slot-is, step-live, waiting, asked, goes-on, step-nearer}
 
 -- A choice is made.
 
@@ -46,6 +50,15 @@ slot-nearer : {m : Machine} → Live m → inService (m .control .action) ≡ tr
     → waiting (slotOf m bus .machine) + 1 ≤ waiting m
 slot-nearer l s e bus = rw (slot-is l bus) (step-nearer l s e bus)
 
+-- many slots are as many single ones, and give the machine after these
+many : (bus commands reports : List ℕ) → length (anyOf bus commands reports) ≡ countOf bus commands reports
+many bus commands reports = length-take-le (countOf bus commands reports) bus (omega arith)
+
+slots-are : {m : Machine} → Live m → (bus commands reports : List ℕ)
+    → slotsOf m bus commands reports .machine ≡ seriesOf m (anyOf bus commands reports) .machine
+unfolding slotsOf batchOf
+slots-are l bus commands reports = rw (eq-eqb _ _ (live-number l))
+
 -- of the calls that are left, from whatever live machine
 abbrev Choosing : List Call → Type 0
 Choosing ks = (m : Machine) → Live m → inService (m .control .action) ≡ true → waiting m < slotsIn ks → chooses m ks ≡ true
@@ -56,6 +69,16 @@ choosing-asked ks next m l s h kind address halfword =
     let r = asked l kind address halfword in
     next (requestOf m kind address halfword .machine) (r .alive) (ap inService (r .action) ∙ s) (omega (arith, r .same))
 
+-- single slots before them
+choosing-slots : (any : List ℕ) (ks : List Call) → Choosing ks → (m : Machine) → Live m → inService (m .control .action) ≡ true → waiting m < slotsIn ks + length any
+    → (choosesIn m any || chooses (seriesOf m any .machine) ks) ≡ true
+unfolding seriesOf
+choosing-slots [] ks next m l s h = next m l s (omega arith)
+choosing-slots (bus ∷ later) ks next m l s h =
+    by-test (isIdle (m .control .action))
+    (λ e. rw e)
+    (λ e. rw e (choosing-slots later ks next (slotOf m bus .machine) (slot-live l bus) (slot-serves l bus s) (omega (arith, slot-nearer l s e bus))))
+
 pub choosing : (calls : List Call) → Choosing calls
 choosing [] m l s h = absurd (omega arith)
 choosing (read a ∷ ks) m l s h = choosing-asked ks (choosing ks) m l s h Kind.Read a 0
@@ -64,6 +87,9 @@ choosing (slot bus ∷ ks) m l s h =
     by-test (isIdle (m .control .action))
     (λ e. rw e)
     (λ e. rw e (choosing ks (slotOf m bus .machine) (slot-live l bus) (slot-serves l bus s) (omega (arith, slot-nearer l s e bus))))
+choosing (slots bus commands reports ∷ ks) m l s h =
+    rw (slots-are l bus commands reports)
+    (choosing-slots (anyOf bus commands reports) ks (choosing ks) m l s (omega (arith, many bus commands reports)))
 choosing (backlog ∷ ks) m l s h = choosing ks m l s h
 
 -- The machine gets into service.
@@ -110,10 +136,19 @@ starting-asked ks next m l h kind address halfword =
     let r = asked l kind address halfword in
     next (requestOf m kind address halfword .machine) (r .alive) (rw (r .config, r .past, r .action) h)
 
+starting-slots : (any : List ℕ) (ks : List Call) → Starting ks → (m : Machine) → Live m → starting m ≤ slotsIn ks + length any
+    → inService (afterCalls (seriesOf m any .machine) ks .control .action) ≡ true
+unfolding seriesOf
+starting-slots [] ks next m l h = next m l (omega arith)
+starting-slots (bus ∷ later) ks next m l h = starting-slots later ks next (slotOf m bus .machine) (slot-live l bus) (omega (arith, slot-sooner l bus))
+
 pub started : (calls : List Call) → Starting calls
 started [] m l h = left-none (m .config) (m .past) (m .control .action) h
 started (read a ∷ ks) m l h = starting-asked ks (started ks) m l h Kind.Read a 0
 started (write a x ∷ ks) m l h = starting-asked ks (started ks) m l h Kind.Write a x
 started (slot bus ∷ ks) m l h =
     started ks (slotOf m bus .machine) (slot-live l bus) (omega (arith, slot-sooner l bus))
+started (slots bus commands reports ∷ ks) m l h =
+    ap (λ (next : Machine). inService (afterCalls next ks .control .action)) (slots-are l bus commands reports)
+    ∙ starting-slots (anyOf bus commands reports) ks (started ks) m l (omega (arith, many bus commands reports))
 started (backlog ∷ ks) m l h = started ks m l h

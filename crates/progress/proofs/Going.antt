@@ -2,6 +2,7 @@
 use Prim.Native.Nat.{ℕ}
 use mathlib.Core.Path.{_≡_, refl, sym, ap, _∙_}
 use mathlib.Core.Bool.{true}
+use mathlib.Core.List.{List, [], _∷_}
 use mathlib.Core.Logic.{dite}
 use native.Mathlib.Omega.{arith}
 use native.Mathlib.Decide.{ℕ-discrete}
@@ -21,7 +22,9 @@ use Rattle.sequencer.specs.declared.Configured.{Configured}
 use Rattle.sequencer.specs.declared.Requested.{Requested}
 use Rattle.sequencer.specs.Machine.{blankOf, machineOf}
 use Rattle.sequencer.specs.Calls.{configuredBy, configureOf, recordNumberOf, requestOf, refusedWith, slotOf}
+use Rattle.sequencer.specs.Batch.{Batch, seriesOf, batchOf, slotsOf}
 use Rattle.sequencer.proofs.Sound.{step-serves, start-facts}
+use Rattle.model.specs.World.{anyOf}
 use Rattle.theorem.proofs.Calls.{request-cases}
 use Rattle.theorem.proofs.Third.{configured-machine}
 use Rattle.progress.specs.Progress.{Keeps, KeptSound, Progress}
@@ -47,6 +50,21 @@ slot-keeps m bus =
     let l = live m z in
     rw (slot-is l bus) (record { number = live-number (step-live l bus) ∙ sym z; config = step-config m bus; service = step-serves m (l .facts) bus }))
     (λ z. rw (slot-refused m bus z) (same m))
+
+series-keeps : (any : List ℕ) (m : Machine) → Keeps m (seriesOf m any .machine)
+unfolding seriesOf
+series-keeps [] m = same m
+series-keeps (bus ∷ later) m =
+    let now = slot-keeps m bus in
+    let then = series-keeps later (slotOf m bus .machine) in
+    record { number = then .number ∙ now .number; config = then .config ∙ now .config; service = λ e. then .service (now .service e) }
+
+slots-keeps : (m : Machine) (bus commands reports : List ℕ) → Keeps m (slotsOf m bus commands reports .machine)
+unfolding slotsOf batchOf
+slots-keeps m bus commands reports =
+    if-both (λ (r : Batch). Keeps m (r .machine)) (eqb (recordNumberOf m) 0)
+    (λ e. series-keeps (anyOf bus commands reports) m)
+    (λ e. same m)
 
 request-keeps : (m : Machine) (kind : Kind) (address halfword : ℕ) → Keeps m (requestOf m kind address halfword .machine)
 request-keeps m kind address halfword =
@@ -81,6 +99,7 @@ kept-sound =
       read = λ m address. request-keeps m Kind.Read address 0;
       write = λ m address halfword. request-keeps m Kind.Write address halfword;
       slot = slot-keeps;
+      slots = slots-keeps;
     }
 
 pub progress : Progress

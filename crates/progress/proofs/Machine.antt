@@ -31,9 +31,9 @@ use Rattle.sequencer.specs.declared.Machine.{Machine}
 use Rattle.sequencer.specs.declared.Requested.{Requested}
 use Rattle.sequencer.specs.Machine.{stepOf}
 use Rattle.sequencer.specs.Calls.{recordNumberOf, queuedRequest, enqueuedOf, requestOf, slotOf}
-use Rattle.sequencer.proofs.Laws.{SoundFacts, request-facts}
+use Rattle.sequencer.proofs.Laws.{SoundFacts, request-facts, slot-steps}
 use Rattle.sequencer.proofs.Sound.{record-facts, step-sound, queued-sound}
-use Rattle.theorem.proofs.Calls.{request-cases, slot-steps}
+use Rattle.theorem.proofs.Calls.{request-cases}
 use Rattle.theorem.proofs.Plans.{chosenOf, actedOf, afterOf, step-is}
 use Rattle.theorem.proofs.Timing.Service.{Queued, left-arrive}
 use Rattle.progress.proofs.Action.{sends, waitOf, Going, nearer}

@@ -5,31 +5,40 @@ use mathlib.Core.List.{List, [], _∷_}
 use Rattle.plan.specs.Actions.{isIdle}
 use Rattle.sequencer.specs.declared.Machine.{Machine}
 use Rattle.sequencer.specs.Calls.{readRequestOf, writeRequestOf, slotOf}
-use Rattle.model.specs.World.{Call, read, write, slot, backlog}
+use Rattle.sequencer.specs.Batch.{slotsOf}
+use Rattle.model.specs.World.{Call, read, write, slot, slots, backlog, countOf, anyOf}
 
 -- the record after a call, and after a list of calls
 abbrev pub afterCall : Machine → Call → Machine
 afterCall m (read a) = readRequestOf m a .machine
 afterCall m (write a h) = writeRequestOf m a h .machine
 afterCall m (slot bus) = slotOf m bus .machine
+afterCall m (slots bus commands reports) = slotsOf m bus commands reports .machine
 afterCall m backlog = m
 
 abbrev pub afterCalls : Machine → List Call → Machine
 afterCalls m [] = m
 afterCalls m (k ∷ ks) = afterCalls (afterCall m k) ks
 
--- how many of the calls are slots
+-- how many slots the calls run
 abbrev pub slotsIn : List Call → ℕ
 slotsIn [] = 0
 slotsIn (read a ∷ ks) = slotsIn ks
 slotsIn (write a h ∷ ks) = slotsIn ks
 slotsIn (slot bus ∷ ks) = slotsIn ks + 1
+slotsIn (slots bus commands reports ∷ ks) = slotsIn ks + countOf bus commands reports
 slotsIn (backlog ∷ ks) = slotsIn ks
 
--- is a choice made in one of their slots?
+-- is a choice made in one of these slots, with these halfwords on the bus?
+abbrev pub choosesIn : Machine → List ℕ → Bool
+choosesIn m [] = false
+choosesIn m (bus ∷ later) = isIdle (m .control .action) || choosesIn (slotOf m bus .machine) later
+
+-- is a choice made in one of the calls' slots?
 abbrev pub chooses : Machine → List Call → Bool
 chooses m [] = false
 chooses m (read a ∷ ks) = chooses (afterCall m (read a)) ks
 chooses m (write a h ∷ ks) = chooses (afterCall m (write a h)) ks
 chooses m (slot bus ∷ ks) = isIdle (m .control .action) || chooses (afterCall m (slot bus)) ks
+chooses m (slots bus commands reports ∷ ks) = choosesIn m (anyOf bus commands reports) || chooses (afterCall m (slots bus commands reports)) ks
 chooses m (backlog ∷ ks) = chooses m ks

@@ -3,7 +3,7 @@ use Prim.Native.Nat.{ℕ}
 use mathlib.Core.Path.{_≡_, refl, subst}
 use mathlib.Core.Bool.{Bool, true, false, cond}
 use lib.Dec.{eqb}
-use borrow.Author.Tests.{eqb-true}
+use borrow.Author.Tests.{eqb-true, eq-eqb}
 use Rattle.numbers.specs.Sound.{soundBy}
 use Rattle.numbers.proofs.Laws as parts
 use Rattle.turn.specs.Parts.{Parts, steppedOf, keptOf, turnedOf}
@@ -53,3 +53,8 @@ slot-is m bus {number} {t} e f =
         ≡ cond b (stepOf m bus) (refusedWith m number)
     by-test true h = rw (eqb-true number 0 h)
     by-test false h = refl
+
+-- a record with no number: the slot is a step
+pub slot-steps : (m : Machine) (bus : ℕ) → recordNumberOf m ≡ 0 → slotOf m bus ≡ stepOf m bus
+unfolding slotOf
+slot-steps m bus h = simp (eq-eqb _ _ h)

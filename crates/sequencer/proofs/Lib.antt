@@ -2,3 +2,4 @@
 pub mod Laws
 pub mod Examples
 pub mod Sound
+pub mod Batch

@@ -2,3 +2,4 @@
 pub mod Machine
 pub mod Sound
 pub mod Calls
+pub mod Batch

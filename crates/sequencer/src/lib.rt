@@ -1,4 +1,4 @@
-// Owns the machine and the calls on it: configuration, the read request, the write request, the slot, and the backlog.
+// Owns the machine and the calls on it: configuration, the read request, the write request, the slot, many slots, and the backlog.
 use ages::Past;
 use command::Command;
 use config::Config;
@@ -11,7 +11,9 @@ use queue::Queue;
 use queue::Request;
 use refresh::Counters;
 ghost use mathlib.Core.Path.{_≡_};
-ghost use Prim.Native.Nat.{_≤_, _<_};
+ghost use Prim.Native.Nat.{_≤_, _<_, min};
+ghost use mathlib.Core.Bool.{cond};
+ghost use lib.Dec.{eqb};
 ghost use Rattle.numbers.specs.Numbers.{lastNumber};
 ghost use Rattle.sequencer.specs.Machine.{blankOf, machineOf};
 ghost use Rattle.sequencer.specs.Calls.{
@@ -26,6 +28,7 @@ ghost use Rattle.sequencer.specs.Calls.{
   slotOf,
   backlogOf,
 };
+ghost use Rattle.sequencer.specs.Batch.{roomOf, given, slotsOf};
 
 // The whole machine. One that is not configured is blank.
 pub struct Machine {
@@ -58,6 +61,13 @@ pub struct Slot {
     pub number: u8,
     pub command: Command,
     pub report: Report,
+}
+
+// A number of the table, how many slots were run, and the machine after them.
+pub struct Slots {
+    pub machine: Machine,
+    pub number: u8,
+    pub count: usize,
 }
 
 // A number of the table, and the backlog.
@@ -105,6 +115,25 @@ fn configured_by(setting: Setting) -> Configured
         number: setting.number,
         machine,
     }
+}
+
+fn lesser(a: usize, b: usize) -> usize
+    ensures { λ r. ⌜ r ≡ min a b ⌝ }
+{
+    if b < a {
+        return b;
+    }
+    a
+}
+
+// How many slots a call runs, by its number and the lengths of its arrays.
+fn room(number: u8, bus: usize, commands: usize, reports: usize) -> usize
+    ensures { λ r. ⌜ r ≡ cond (eqb number 0) (roomOf bus commands reports) 0 ⌝ }
+{
+    if number != 0 {
+        return 0;
+    }
+    lesser(bus, lesser(commands, reports))
 }
 
 impl Machine {
@@ -307,6 +336,81 @@ impl Machine {
             number,
             command,
             report,
+        }
+    }
+
+    // As many slots as the shortest array has room for; `bus` has the halfwords that the bus carries in them. The words of their commands and reports
+    // (docs/PACKING.md) are stored from the first place on. The parts stay in place for all slots, and the machine is built once.
+    pub fn slots(self, bus: &[u16], commands: &mut [u64], reports: &mut [u64]) -> Slots
+        ensures { λ r. ⌜ given r (now (commands .exit)) (now (reports .exit)) ≡ slotsOf self (now (bus .entry)) (now (commands .entry)) (now (reports .entry)) ⌝ }
+    {
+        let config = self.config;
+        let past = self.past;
+        let counters = self.counters;
+        let control = self.control;
+        let queue = self.queue;
+        let mut ages = past.ages;
+        let mut opened = past.opened;
+        let mut rows = past.rows;
+        let mut programmed = past.programmed;
+        let mut places = queue.places;
+        let before = control.action;
+        let number = numbers::record_number(
+            self.configured,
+            config::accepted(config),
+            config,
+            &opened,
+            programmed,
+            counters,
+            before,
+            queue.count,
+        );
+        let count = room(number, bus.len(), commands.len(), reports.len());
+        let ended = batch::run(
+            count,
+            config,
+            &mut ages,
+            &mut opened,
+            &mut rows,
+            &mut programmed,
+            &mut places,
+            queue.count,
+            counters,
+            before,
+            control.must,
+            bus,
+            commands,
+            reports,
+        );
+        let action = ended.action;
+        let counters_after = ended.counters;
+        let past_after = Past {
+            ages,
+            opened,
+            rows,
+            programmed,
+        };
+        let control_after = Control {
+            action,
+            must: ended.must,
+        };
+        let queue_after = Queue {
+            places,
+            count: ended.count,
+        };
+        let machine = Machine {
+            queue: queue_after,
+            past: past_after,
+            config,
+            counters: counters_after,
+            control: control_after,
+            configured: self.configured,
+            accepted: self.accepted,
+        };
+        Slots {
+            machine,
+            number,
+            count,
         }
     }
 

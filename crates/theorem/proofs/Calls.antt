@@ -7,8 +7,7 @@ use borrow.Author.Tests.{eqb-true, eqb-false, eq-eqb}
 use Rattle.queue.specs.declared.Kind.{Kind}
 use Rattle.sequencer.specs.declared.Machine.{Machine}
 use Rattle.sequencer.specs.declared.Requested.{Requested}
-use Rattle.sequencer.specs.Machine.{stepOf}
-use Rattle.sequencer.specs.Calls.{recordNumberOf, requestNumberOf, queuedRequest, enqueuedOf, requestOf, slotOf, backlogOf}
+use Rattle.sequencer.specs.Calls.{recordNumberOf, requestNumberOf, queuedRequest, enqueuedOf, requestOf, backlogOf}
 
 -- a request is accepted, or the record comes back
 pub request-cases : (m : Machine) (kind : Kind) (address halfword : ℕ) (P : Requested → Type 0)
@@ -23,11 +22,7 @@ request-cases m kind address halfword P yes′ no′ = by-test (eqb (requestNumb
     by-test true e = yes′ (eqb-true _ _ e)
     by-test false e = no′ (eqb-false _ _ e)
 
--- a record with no number: the slot is a step, and the reading call gives the counter
-pub slot-steps : (m : Machine) (bus : ℕ) → recordNumberOf m ≡ 0 → slotOf m bus ≡ stepOf m bus
-unfolding slotOf
-slot-steps m bus h = simp (eq-eqb _ _ h)
-
+-- a record with no number: the reading call gives the counter
 pub backlog-reads : (m : Machine) → recordNumberOf m ≡ 0 → backlogOf m ≡ record { number = 0; backlog = m .counters .backlog }
 unfolding backlogOf
 backlog-reads m h = simp (eq-eqb _ _ h)

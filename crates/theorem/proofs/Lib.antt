@@ -8,4 +8,6 @@ pub mod Start
 pub mod Refreshes
 pub mod Standing
 pub mod Requests
+pub mod Slot
+pub mod Batch
 pub mod Third

@@ -46,7 +46,7 @@ fn queue_after(places: &mut [u32; 24], count: u32, at: u16, leaves: bool) -> u32
 }
 
 // One slot, with the action under way when it begins; `must` says whether a Must run is on, and `bus` is the halfword that the bus carries.
-fn step(
+pub fn step(
     c: Config,
     ages: &mut [u8; 16],
     opened: &mut [bool; 4],

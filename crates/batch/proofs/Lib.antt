@@ -1,0 +1,2 @@
+-- What the loop keeps.
+pub mod Loop

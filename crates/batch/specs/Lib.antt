@@ -1,0 +1,2 @@
+-- Many slots on the machine's parts.
+pub mod Run

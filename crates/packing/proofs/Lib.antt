@@ -1,0 +1,3 @@
+-- The laws of the packing, and worked examples.
+pub mod Laws
+pub mod Examples

@@ -1,0 +1,3 @@
+-- Document 02, (i): commands and reports as words of 64 bits.
+pub mod Packing
+pub mod Laws
