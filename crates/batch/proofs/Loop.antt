@@ -13,7 +13,7 @@ use Rattle.refresh.specs.declared.Counters.{Counters}
 use Rattle.plan.specs.declared.Control.{Control}
 use Rattle.packing.specs.Packing.{commandWord, reportWord}
 use Rattle.turn.specs.Parts.{Parts, steppedOf}
-use Rattle.batch.specs.Run.{Ran, ranOf, storedOf}
+use Rattle.batch.specs.Run.{Ran, ranOf, filledOf}
 
 abbrev pub onwards : ℕ → ℕ → Config → Past → Counters → Control → Queue → List ℕ → List ℕ → List ℕ → Ran
 onwards i slots c p n x q bus commands reports =
@@ -29,8 +29,8 @@ onwards i slots c p n x q bus commands reports =
 
 -- from the first place on they are all
 pub onwards-all : (slots : ℕ) (c : Config) (p : Past) (n : Counters) (x : Control) (q : Queue) (bus commands reports : List ℕ)
-    → onwards 0 slots c p n x q bus commands reports ≡ storedOf slots c p n x q bus commands reports
-unfolding storedOf
+    → onwards 0 slots c p n x q bus commands reports ≡ filledOf slots c p n x q bus commands reports
+unfolding filledOf
 onwards-all slots c p n x q bus commands reports = refl
 
 -- a word is stored at place i

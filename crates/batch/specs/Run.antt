@@ -51,8 +51,8 @@ ranOf c p n x q (bus ∷ later) =
     }
 
 -- a slot for each of the first halfwords; their words are stored from the first place on, and what is behind them stays
-unfoldable pub storedOf : ℕ → Config → Past → Counters → Control → Queue → List ℕ → List ℕ → List ℕ → Ran
-storedOf slots c p n x q bus commands reports =
+unfoldable pub filledOf : ℕ → Config → Past → Counters → Control → Queue → List ℕ → List ℕ → List ℕ → Ran
+filledOf slots c p n x q bus commands reports =
     let r : Ran = ranOf c p n x q (take slots bus) in
     record {
       past = r .past;

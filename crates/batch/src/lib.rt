@@ -10,7 +10,7 @@ ghost use Rattle.config.specs.Accepted.{Shaped};
 ghost use Rattle.ages.specs.Ages.{pastOf};
 ghost use Rattle.queue.specs.Places.{queueOf};
 ghost use Rattle.plan.specs.Actions.{controlOf};
-ghost use Rattle.batch.specs.Run.{gathered, storedOf};
+ghost use Rattle.batch.specs.Run.{gathered, filledOf};
 
 // What slots give beside what they change in place: the machine's other parts after them.
 pub struct Ended {
@@ -40,12 +40,12 @@ pub fn run(
     requires { ⌜ (0 < slots → Shaped (c .geometry)) ⌝ }
     requires { ⌜ (length (now ages) ≡ 16) × (length (now opened) ≡ 4) × (length (now rows) ≡ 4) ⌝ }
     requires { ⌜ (slots ≤ length (now bus)) × (slots ≤ length (now commands)) × (slots ≤ length (now reports)) ⌝ }
-    ensures { λ r. ⌜ gathered (pastOf (now (ages .exit)) (now (opened .exit)) (now (rows .exit)) (now (programmed .exit))) (now (places .exit)) r (now (commands .exit)) (now (reports .exit)) ≡ storedOf slots c (pastOf (now (ages .entry)) (now (opened .entry)) (now (rows .entry)) (now (programmed .entry))) n (controlOf action must) (queueOf (now (places .entry)) count) (now (bus .entry)) (now (commands .entry)) (now (reports .entry)) ⌝ }
+    ensures { λ r. ⌜ gathered (pastOf (now (ages .exit)) (now (opened .exit)) (now (rows .exit)) (now (programmed .exit))) (now (places .exit)) r (now (commands .exit)) (now (reports .exit)) ≡ filledOf slots c (pastOf (now (ages .entry)) (now (opened .entry)) (now (rows .entry)) (now (programmed .entry))) n (controlOf action must) (queueOf (now (places .entry)) count) (now (bus .entry)) (now (commands .entry)) (now (reports .entry)) ⌝ }
 {
-    let mut left = count;
+    let mut queued = count;
     let mut counters = n;
     let mut current = action;
-    let mut run = must;
+    let mut must_run = must;
     let mut i = 0;
     while i < slots {
         let turned = turn::step(
@@ -55,26 +55,26 @@ pub fn run(
             rows,
             programmed,
             places,
-            left,
+            queued,
             counters,
             current,
-            run,
+            must_run,
             bus[i],
         );
         let command = turned.command;
         let report = turned.report;
         commands[i] = packing::pack_command(command);
         reports[i] = packing::pack_report(report);
-        left = turned.count;
+        queued = turned.count;
         counters = turned.counters;
         current = turned.action;
-        run = turned.must;
+        must_run = turned.must;
         i += 1;
     }
     Ended {
         action: current,
         counters,
-        count: left,
-        must: run,
+        count: queued,
+        must: must_run,
     }
 }

@@ -42,7 +42,7 @@ use Rattle.model.specs.World.{
   afterSlot,
   afterSlots,
   countOf,
-  anyOf,
+  usedOf,
   batchIn,
   startWorld,
   after,
@@ -152,9 +152,9 @@ pub record Carried (c : Config) (w : World) (s : Slot) : Type 0 where
   pub counted : inService (w .machine .control .action) ≡ true → tickOf (w .machine .counters) (c .rr) .backlog ≡ expiries c (w .sdram .log .now + 1) - refreshes c w
 
 -- Many slots: what each gives, one after the other; each is right, and so is the world before it and after the last.
-abbrev pub eachIn : Config → World → List ℕ → List Slot
-eachIn c w [] = []
-eachIn c w (any ∷ later) = slotIn w any ∷ eachIn c (afterSlot c w (slotIn w any)) later
+abbrev pub slotsAlong : Config → World → List ℕ → List Slot
+slotsAlong c w [] = []
+slotsAlong c w (any ∷ later) = slotIn w any ∷ slotsAlong c (afterSlot c w (slotIn w any)) later
 
 abbrev pub EachCarried : Config → World → List ℕ → Type 0
 EachCarried c w [] = Standing c w
@@ -163,11 +163,11 @@ EachCarried c w (any ∷ later) = Standing c w × Carried c w (slotIn w any) × 
 -- The call gives what they give, in words, and leaves what is behind these.
 pub record CarriedAll (c : Config) (w : World) (bus commands reports : List ℕ) (r : Batch) : Type 0 where
   pub answered : r .number ≡ 0
-  pub counted : r .count ≡ countOf bus commands reports
-  pub machine : r .machine ≡ afterSlots c w (anyOf bus commands reports) .machine
-  pub commands-sent : r .commands ≡ map (λ s. commandWord (s .command)) (eachIn c w (anyOf bus commands reports)) ++ drop (countOf bus commands reports) commands
-  pub reports-given : r .reports ≡ map (λ s. reportWord (s .report)) (eachIn c w (anyOf bus commands reports)) ++ drop (countOf bus commands reports) reports
-  pub each : EachCarried c w (anyOf bus commands reports)
+  pub count : r .count ≡ countOf bus commands reports
+  pub machine : r .machine ≡ afterSlots c w (usedOf bus commands reports) .machine
+  pub commands-sent : r .commands ≡ map (λ s. commandWord (s .command)) (slotsAlong c w (usedOf bus commands reports)) ++ drop (countOf bus commands reports) commands
+  pub reports-given : r .reports ≡ map (λ s. reportWord (s .report)) (slotsAlong c w (usedOf bus commands reports)) ++ drop (countOf bus commands reports) reports
+  pub each : EachCarried c w (usedOf bus commands reports)
 
 -- The reading call gives exactly the backlog.
 pub record Exact (c : Config) (w : World) (r : Reading) : Type 0 where

@@ -11,7 +11,7 @@ use Rattle.sequencer.specs.declared.Machine.{Machine}
 use Rattle.sequencer.specs.declared.Requested.{Requested}
 use Rattle.sequencer.specs.declared.Slot.{Slot}
 use Rattle.sequencer.specs.Calls.{readRequestOf, writeRequestOf, slotOf}
-use Rattle.sequencer.specs.Batch.{Batch, roomOf, slotsOf}
+use Rattle.sequencer.specs.Batch.{Batch, roomOf, manySlotsOf}
 use Rattle.model.specs.Sdram.{Cells, Sdram, startSdram, drivenIn, sdramAfter}
 use Rattle.model.specs.Flat.{Flat, startFlat, flatAfter}
 
@@ -19,8 +19,8 @@ use Rattle.model.specs.Flat.{Flat, startFlat, flatAfter}
 abbrev pub halfwordOf : ℕ → ℕ
 halfwordOf n = n % 65536
 
--- a call with its arguments; a slot has the halfword that the bus carries if the SDRAM has none on it, and many slots have one each, with what both arrays hold
--- before the call
+-- a call with its arguments. A slot has the halfword that the bus carries if the SDRAM has none on it. Many slots have one for each, and what both arrays
+-- hold before the call
 pub data Call : Type 0 where
   read : (address : ℕ) → Call
   write : (address halfword : ℕ) → Call
@@ -82,24 +82,25 @@ afterSlots c w [] = w
 afterSlots c w (any ∷ later) = afterSlots c (afterSlot c w (slotIn w any)) later
 
 -- and the halfwords that the bus carries in them, made slot by slot
-unfoldable pub busesOf : Config → World → List ℕ → List ℕ
-busesOf c w [] = []
-busesOf c w (any ∷ later) = busOf w any ∷ busesOf c (afterSlot c w (slotIn w any)) later
+unfoldable pub busAlong : Config → World → List ℕ → List ℕ
+busAlong c w [] = []
+busAlong c w (any ∷ later) = busOf w any ∷ busAlong c (afterSlot c w (slotIn w any)) later
 
--- how many slots the call runs, and the halfwords of these
+-- how many slots the call runs, and the halfwords that it uses: those of these slots
 abbrev pub countOf : List ℕ → List ℕ → List ℕ → ℕ
 countOf bus commands reports = roomOf (length bus) (length commands) (length reports)
 
-abbrev pub anyOf : List ℕ → List ℕ → List ℕ → List ℕ
-anyOf bus commands reports = take (countOf bus commands reports) bus
+abbrev pub usedOf : List ℕ → List ℕ → List ℕ → List ℕ
+usedOf bus commands reports = take (countOf bus commands reports) bus
 
--- the array of halfwords that it is handed: those of its slots, and behind them any
+-- the array that it is handed: the halfwords that the bus carries in its slots, and behind them any. Every array that fits the SDRAM is handed as it is
+-- (`along-own` of proofs/Along.antt)
 unfoldable pub handedOf : Config → World → List ℕ → List ℕ → List ℕ → List ℕ
-handedOf c w bus commands reports = busesOf c w (anyOf bus commands reports) ++ drop (countOf bus commands reports) bus
+handedOf c w bus commands reports = busAlong c w (usedOf bus commands reports) ++ drop (countOf bus commands reports) bus
 
 -- what it gives
 unfoldable pub batchIn : Config → World → List ℕ → List ℕ → List ℕ → Batch
-batchIn c w bus commands reports = slotsOf (w .machine) (handedOf c w bus commands reports) commands reports
+batchIn c w bus commands reports = manySlotsOf (w .machine) (handedOf c w bus commands reports) commands reports
 
 -- the world after its slots, with the machine that it gives back
 unfoldable pub afterBatch : World → Batch → World
@@ -119,7 +120,7 @@ unfoldable pub after : Config → World → Call → World
 after c w (read a) = afterRequest w Kind.Read a 0 (readRequestOf (w .machine) a)
 after c w (write a h) = afterRequest w Kind.Write a (halfwordOf h) (writeRequestOf (w .machine) a (halfwordOf h))
 after c w (slot any) = afterSlot c w (slotIn w any)
-after c w (slots bus commands reports) = afterBatch (afterSlots c w (anyOf bus commands reports)) (batchIn c w bus commands reports)
+after c w (slots bus commands reports) = afterBatch (afterSlots c w (usedOf bus commands reports)) (batchIn c w bus commands reports)
 after c w backlog = w
 
 -- all calls of a list, the first one first

@@ -34,6 +34,7 @@ pub record PackedCommands : Type 0 where
   -- a word that packs a command is that command's word; so no command has two
   pub spelled : (w : ℕ) → Word w → packsCommand w ≡ true → FitsCommand (commandIn w) × (commandWord (commandIn w) ≡ w)
 
+-- The same of reports.
 pub record PackedReports : Type 0 where
   pub packed : (r : Report) → FitsReport r → Word (reportWord r) × (packsReport (reportWord r) ≡ true) × (reportIn (reportWord r) ≡ r)
   pub spelled : (w : ℕ) → Word w → packsReport w ≡ true → FitsReport (reportIn w) × (reportWord (reportIn w) ≡ w)

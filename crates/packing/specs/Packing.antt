@@ -23,7 +23,7 @@ lowOf w = w / 65536 % 65536
 abbrev pub highOf : ℕ → ℕ
 highOf w = w / 4294967296
 
--- Commands. A row, a column and the mode register's word are the low number; WRT's halfword is the lower half of the high one.
+-- Commands. A row, a column and the mode register's word are the low number; WRT's halfword is the high one, and bits 48 to 63 stay 0.
 
 unfoldable pub commandWord : Command → ℕ
 commandWord Nop = wordOf 0 0 0 0

@@ -38,7 +38,7 @@ pub fn pack_command(command: Command) -> u64
     }
 }
 
-// The command that a word packs; NOP where it packs none.
+// The command that a word has by its kind, NOP for a kind that no command has. `packs_command` says whether the word is that command's.
 pub fn unpack_command(word: u64) -> Command
     ensures { λ r. ⌜ r ≡ commandIn word ⌝ }
 {
@@ -75,7 +75,7 @@ pub fn pack_report(report: Report) -> u64
     }
 }
 
-// The report that a word packs; nothing where it packs none.
+// The report that a word has by its kind. `packs_report` says whether the word is that report's.
 pub fn unpack_report(word: u64) -> Report
     ensures { λ r. ⌜ r ≡ reportIn word ⌝ }
 {

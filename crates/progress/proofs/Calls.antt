@@ -31,8 +31,8 @@ use Rattle.sequencer.specs.declared.Machine.{Machine}
 use Rattle.sequencer.specs.Machine.{stepOf}
 use Rattle.sequencer.specs.Calls.{requestOf, slotOf}
 use Rattle.sequencer.proofs.Sound.{step-serves}
-use Rattle.sequencer.specs.Batch.{seriesOf, batchOf, slotsOf}
-use Rattle.model.specs.World.{Call, read, write, slot, slots, backlog, countOf, anyOf}
+use Rattle.sequencer.specs.Batch.{seriesOf, batchOf, manySlotsOf}
+use Rattle.model.specs.World.{Call, read, write, slot, slots, backlog, countOf, usedOf}
 use Rattle.theorem.proofs.Plans.{actedOf, afterOf, step-is}
 use Rattle.progress.specs.Calls.{afterCalls, slotsIn, choosesIn, chooses}
 use Rattle.progress.proofs.Start.{startLeft, left-none, none-left, sooner}
@@ -51,12 +51,12 @@ slot-nearer : {m : Machine} → Live m → inService (m .control .action) ≡ tr
 slot-nearer l s e bus = rw (slot-is l bus) (step-nearer l s e bus)
 
 -- many slots are as many single ones, and give the machine after these
-many : (bus commands reports : List ℕ) → length (anyOf bus commands reports) ≡ countOf bus commands reports
+many : (bus commands reports : List ℕ) → length (usedOf bus commands reports) ≡ countOf bus commands reports
 many bus commands reports = length-take-le (countOf bus commands reports) bus (omega arith)
 
 slots-are : {m : Machine} → Live m → (bus commands reports : List ℕ)
-    → slotsOf m bus commands reports .machine ≡ seriesOf m (anyOf bus commands reports) .machine
-unfolding slotsOf batchOf
+    → manySlotsOf m bus commands reports .machine ≡ seriesOf m (usedOf bus commands reports) .machine
+unfolding manySlotsOf batchOf
 slots-are l bus commands reports = rw (eq-eqb _ _ (live-number l))
 
 -- of the calls that are left, from whatever live machine
@@ -89,7 +89,7 @@ choosing (slot bus ∷ ks) m l s h =
     (λ e. rw e (choosing ks (slotOf m bus .machine) (slot-live l bus) (slot-serves l bus s) (omega (arith, slot-nearer l s e bus))))
 choosing (slots bus commands reports ∷ ks) m l s h =
     rw (slots-are l bus commands reports)
-    (choosing-slots (anyOf bus commands reports) ks (choosing ks) m l s (omega (arith, many bus commands reports)))
+    (choosing-slots (usedOf bus commands reports) ks (choosing ks) m l s (omega (arith, many bus commands reports)))
 choosing (backlog ∷ ks) m l s h = choosing ks m l s h
 
 -- The machine gets into service.
@@ -150,5 +150,5 @@ started (slot bus ∷ ks) m l h =
     started ks (slotOf m bus .machine) (slot-live l bus) (omega (arith, slot-sooner l bus))
 started (slots bus commands reports ∷ ks) m l h =
     ap (λ (next : Machine). inService (afterCalls next ks .control .action)) (slots-are l bus commands reports)
-    ∙ starting-slots (anyOf bus commands reports) ks (started ks) m l (omega (arith, many bus commands reports))
+    ∙ starting-slots (usedOf bus commands reports) ks (started ks) m l (omega (arith, many bus commands reports))
 started (backlog ∷ ks) m l h = started ks m l h

@@ -22,9 +22,9 @@ use Rattle.sequencer.specs.declared.Configured.{Configured}
 use Rattle.sequencer.specs.declared.Requested.{Requested}
 use Rattle.sequencer.specs.Machine.{blankOf, machineOf}
 use Rattle.sequencer.specs.Calls.{configuredBy, configureOf, recordNumberOf, requestOf, refusedWith, slotOf}
-use Rattle.sequencer.specs.Batch.{Batch, seriesOf, batchOf, slotsOf}
+use Rattle.sequencer.specs.Batch.{Batch, seriesOf, batchOf, manySlotsOf}
 use Rattle.sequencer.proofs.Sound.{step-serves, start-facts}
-use Rattle.model.specs.World.{anyOf}
+use Rattle.model.specs.World.{usedOf}
 use Rattle.theorem.proofs.Calls.{request-cases}
 use Rattle.theorem.proofs.Third.{configured-machine}
 use Rattle.progress.specs.Progress.{Keeps, KeptSound, Progress}
@@ -59,11 +59,11 @@ series-keeps (bus ∷ later) m =
     let then = series-keeps later (slotOf m bus .machine) in
     record { number = then .number ∙ now .number; config = then .config ∙ now .config; service = λ e. then .service (now .service e) }
 
-slots-keeps : (m : Machine) (bus commands reports : List ℕ) → Keeps m (slotsOf m bus commands reports .machine)
-unfolding slotsOf batchOf
+slots-keeps : (m : Machine) (bus commands reports : List ℕ) → Keeps m (manySlotsOf m bus commands reports .machine)
+unfolding manySlotsOf batchOf
 slots-keeps m bus commands reports =
     if-both (λ (r : Batch). Keeps m (r .machine)) (eqb (recordNumberOf m) 0)
-    (λ e. series-keeps (anyOf bus commands reports) m)
+    (λ e. series-keeps (usedOf bus commands reports) m)
     (λ e. same m)
 
 request-keeps : (m : Machine) (kind : Kind) (address halfword : ℕ) → Keeps m (requestOf m kind address halfword .machine)

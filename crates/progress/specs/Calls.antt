@@ -5,15 +5,15 @@ use mathlib.Core.List.{List, [], _∷_}
 use Rattle.plan.specs.Actions.{isIdle}
 use Rattle.sequencer.specs.declared.Machine.{Machine}
 use Rattle.sequencer.specs.Calls.{readRequestOf, writeRequestOf, slotOf}
-use Rattle.sequencer.specs.Batch.{slotsOf}
-use Rattle.model.specs.World.{Call, read, write, slot, slots, backlog, countOf, anyOf}
+use Rattle.sequencer.specs.Batch.{manySlotsOf}
+use Rattle.model.specs.World.{Call, read, write, slot, slots, backlog, countOf, usedOf}
 
 -- the record after a call, and after a list of calls
 abbrev pub afterCall : Machine → Call → Machine
 afterCall m (read a) = readRequestOf m a .machine
 afterCall m (write a h) = writeRequestOf m a h .machine
 afterCall m (slot bus) = slotOf m bus .machine
-afterCall m (slots bus commands reports) = slotsOf m bus commands reports .machine
+afterCall m (slots bus commands reports) = manySlotsOf m bus commands reports .machine
 afterCall m backlog = m
 
 abbrev pub afterCalls : Machine → List Call → Machine
@@ -40,5 +40,5 @@ chooses m [] = false
 chooses m (read a ∷ ks) = chooses (afterCall m (read a)) ks
 chooses m (write a h ∷ ks) = chooses (afterCall m (write a h)) ks
 chooses m (slot bus ∷ ks) = isIdle (m .control .action) || chooses (afterCall m (slot bus)) ks
-chooses m (slots bus commands reports ∷ ks) = choosesIn m (anyOf bus commands reports) || chooses (afterCall m (slots bus commands reports)) ks
+chooses m (slots bus commands reports ∷ ks) = choosesIn m (usedOf bus commands reports) || chooses (afterCall m (slots bus commands reports)) ks
 chooses m (backlog ∷ ks) = chooses m ks

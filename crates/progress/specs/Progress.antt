@@ -31,7 +31,7 @@ use Rattle.plan.specs.Actions.{inService}
 use Rattle.plan.specs.Choice.{rulesOf}
 use Rattle.sequencer.specs.declared.Machine.{Machine}
 use Rattle.sequencer.specs.Calls.{configureOf, recordNumberOf, readRequestOf, writeRequestOf, slotOf}
-use Rattle.sequencer.specs.Batch.{slotsOf}
+use Rattle.sequencer.specs.Batch.{manySlotsOf}
 use Rattle.model.specs.World.{Call}
 use Rattle.model.specs.Condition.{firstService}
 use Rattle.progress.specs.Calls.{afterCalls, slotsIn, chooses}
@@ -49,7 +49,7 @@ pub record KeptSound : Type 0 where
   pub read : (m : Machine) (address : ℕ) → Keeps m (readRequestOf m address .machine)
   pub write : (m : Machine) (address halfword : ℕ) → Keeps m (writeRequestOf m address halfword .machine)
   pub slot : (m : Machine) (bus : ℕ) → Keeps m (slotOf m bus .machine)
-  pub slots : (m : Machine) (bus commands reports : List ℕ) → Keeps m (slotsOf m bus commands reports .machine)
+  pub slots : (m : Machine) (bus commands reports : List ℕ) → Keeps m (manySlotsOf m bus commands reports .machine)
 
 -- The bounds, in slots.
 

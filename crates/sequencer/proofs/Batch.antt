@@ -10,12 +10,12 @@ use borrow.Author.Tests.{eqb-true, eq-eqb}
 use Rattle.config.specs.Accepted.{Shaped}
 use Rattle.numbers.proofs.Laws as numbers
 use Rattle.turn.specs.Parts.{steppedOf}
-use Rattle.batch.specs.Run.{Ran, ranOf, storedOf}
+use Rattle.batch.specs.Run.{Ran, ranOf, filledOf}
 use Rattle.sequencer.specs.declared.Machine.{Machine}
 use Rattle.sequencer.specs.declared.Slot.{Slot}
 use Rattle.sequencer.specs.Machine.{machineWith, stepOf}
 use Rattle.sequencer.specs.Calls.{recordNumberOf, slotOf}
-use Rattle.sequencer.specs.Batch.{Series, Batch, before, seriesOf, roomOf, batchOf, slotsOf}
+use Rattle.sequencer.specs.Batch.{Series, Batch, before, seriesOf, roomOf, batchOf, manySlotsOf}
 use Rattle.sequencer.proofs.Laws.{SoundFacts, slot-steps}
 use Rattle.sequencer.proofs.Sound.{record-facts, step-sound}
 
@@ -56,9 +56,9 @@ batchWith m number count r =
 
 pub slots-is : (m : Machine) (bus commands reports : List ℕ) {number count : ℕ} {r : Ran} → number ≡ recordNumberOf m
     → count ≡ cond (eqb number 0) (roomOf (length bus) (length commands) (length reports)) 0
-    → r ≡ storedOf count (m .config) (m .past) (m .counters) (m .control) (m .queue) bus commands reports
-    → batchWith m number count r ≡ slotsOf m bus commands reports
-unfolding slotsOf batchOf storedOf ranOf
+    → r ≡ filledOf count (m .config) (m .past) (m .counters) (m .control) (m .queue) bus commands reports
+    → batchWith m number count r ≡ manySlotsOf m bus commands reports
+unfolding manySlotsOf batchOf filledOf ranOf
 slots-is m bus commands reports {number} {count} {r} e k f =
     rw (f, k) (subst (λ (n : ℕ). batchWith m number (room (eqb number 0)) (stored (eqb number 0)) ≡ cond (eqb n 0) (batchOf m n-room bus commands reports) (record { number = n; count = 0; machine = m; commands = commands; reports = reports })) e
     (by-test (eqb number 0) refl))
@@ -70,7 +70,7 @@ slots-is m bus commands reports {number} {count} {r} e k f =
     room b = cond b n-room 0
 
     stored : Bool → Ran
-    stored b = storedOf (room b) (m .config) (m .past) (m .counters) (m .control) (m .queue) bus commands reports
+    stored b = filledOf (room b) (m .config) (m .past) (m .counters) (m .control) (m .queue) bus commands reports
 
     by-test : (b : Bool) → eqb number 0 ≡ b
         → batchWith m number (room b) (stored b) ≡ cond b (batchOf m n-room bus commands reports) (record { number = number; count = 0; machine = m; commands = commands; reports = reports })

@@ -20,7 +20,7 @@ pub record Series : Type 0 where
 abbrev pub before : Slot → Series → Series
 before s r = record { machine = r .machine; commands = commandWord (s .command) ∷ r .commands; reports = reportWord (s .report) ∷ r .reports }
 
--- single slots, one for each of the halfwords that the bus carries
+-- single slots, one for each of the halfwords that the bus carries; where the first is not refused, none is (`KeptSound` of `progress`)
 unfoldable pub seriesOf : Machine → List ℕ → Series
 seriesOf m [] = record { machine = m; commands = []; reports = [] }
 seriesOf m (bus ∷ later) = let s : Slot = slotOf m bus in before s (seriesOf (s .machine) later)
@@ -44,11 +44,11 @@ batchOf m n bus commands reports =
     record { number = 0; count = n; machine = r .machine; commands = r .commands ++ drop n commands; reports = r .reports ++ drop n reports }
 
 -- The call. 9 and 8 are tested once; refused, no slot is run, and nothing is stored.
-unfoldable pub slotsOf : Machine → List ℕ → List ℕ → List ℕ → Batch
-slotsOf m bus commands reports =
+unfoldable pub manySlotsOf : Machine → List ℕ → List ℕ → List ℕ → Batch
+manySlotsOf m bus commands reports =
     cond (eqb (recordNumberOf m) 0) (batchOf m (roomOf (length bus) (length commands) (length reports)) bus commands reports)
     (record { number = recordNumberOf m; count = 0; machine = m; commands = commands; reports = reports })
 
 -- as the code has it: the arrays changed in place, and the rest in its answer
-abbrev pub given : Slots → List ℕ → List ℕ → Batch
-given r commands reports = record { number = r .number; count = r .count; machine = r .machine; commands = commands; reports = reports }
+abbrev pub gathered : Slots → List ℕ → List ℕ → Batch
+gathered r commands reports = record { number = r .number; count = r .count; machine = r .machine; commands = commands; reports = reports }

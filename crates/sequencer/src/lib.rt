@@ -28,7 +28,7 @@ ghost use Rattle.sequencer.specs.Calls.{
   slotOf,
   backlogOf,
 };
-ghost use Rattle.sequencer.specs.Batch.{roomOf, given, slotsOf};
+ghost use Rattle.sequencer.specs.Batch.{roomOf, gathered, manySlotsOf};
 
 // The whole machine. One that is not configured is blank.
 pub struct Machine {
@@ -339,10 +339,11 @@ impl Machine {
         }
     }
 
-    // As many slots as the shortest array has room for; `bus` has the halfwords that the bus carries in them. The words of their commands and reports
-    // (docs/PACKING.md) are stored from the first place on. The parts stay in place for all slots, and the machine is built once.
+    // Runs as many slots as the shortest of the three arrays has places; `bus` has the halfword that the bus carries in each. The words of their commands and
+    // reports (docs/PACKING.md) are stored from the first place on, and the places behind them stay. Refused, no slot is run, and nothing changes. The
+    // machine's parts stay in place for all slots, and it is built once.
     pub fn slots(self, bus: &[u16], commands: &mut [u64], reports: &mut [u64]) -> Slots
-        ensures { λ r. ⌜ given r (now (commands .exit)) (now (reports .exit)) ≡ slotsOf self (now (bus .entry)) (now (commands .entry)) (now (reports .entry)) ⌝ }
+        ensures { λ r. ⌜ gathered r (now (commands .exit)) (now (reports .exit)) ≡ manySlotsOf self (now (bus .entry)) (now (commands .entry)) (now (reports .entry)) ⌝ }
     {
         let config = self.config;
         let past = self.past;

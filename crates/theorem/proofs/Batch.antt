@@ -10,9 +10,9 @@ use Rattle.config.specs.declared.Config.{Config}
 use Rattle.config.specs.Accepted.{Accepted}
 use Rattle.packing.specs.Packing.{commandWord, reportWord}
 use Rattle.sequencer.specs.Calls.{recordNumberOf}
-use Rattle.sequencer.specs.Batch.{Series, before, seriesOf, Batch, batchOf, slotsOf}
-use Rattle.model.specs.World.{World, slotIn, afterSlot, afterSlots, busesOf, countOf, anyOf, handedOf, batchIn, afterBatch}
-use Rattle.model.specs.Condition.{eachIn, EachCarried, CarriedAll}
+use Rattle.sequencer.specs.Batch.{Series, before, seriesOf, Batch, batchOf, manySlotsOf}
+use Rattle.model.specs.World.{World, slotIn, afterSlot, afterSlots, busAlong, countOf, usedOf, handedOf, batchIn, afterBatch}
+use Rattle.model.specs.Condition.{slotsAlong, EachCarried, CarriedAll}
 use Rattle.theorem.proofs.Standing.{Whole, sound, standing}
 use Rattle.theorem.proofs.Slot.{slot-right}
 
@@ -30,35 +30,35 @@ abbrev eachSeries : Config → World → List ℕ → Series
 eachSeries c w any =
     record {
       machine = afterSlots c w any .machine;
-      commands = map (λ s. commandWord (s .command)) (eachIn c w any);
-      reports = map (λ s. reportWord (s .report)) (eachIn c w any);
+      commands = map (λ s. commandWord (s .command)) (slotsAlong c w any);
+      reports = map (λ s. reportWord (s .report)) (slotsAlong c w any);
     }
 
-series-each : (c : Config) (any : List ℕ) (w : World) → seriesOf (w .machine) (busesOf c w any) ≡ eachSeries c w any
-unfolding seriesOf busesOf afterSlots slotIn afterSlot
+series-each : (c : Config) (any : List ℕ) (w : World) → seriesOf (w .machine) (busAlong c w any) ≡ eachSeries c w any
+unfolding seriesOf busAlong afterSlots slotIn afterSlot
 series-each c [] w = refl
 series-each c (x ∷ later) w = ap (before (slotIn w x)) (series-each c later (afterSlot c w (slotIn w x)))
 
-buses-length : (c : Config) (any : List ℕ) (w : World) → length (busesOf c w any) ≡ length any
-unfolding busesOf
-buses-length c [] w = refl
-buses-length c (x ∷ later) w = ap suc (buses-length c later (afterSlot c w (slotIn w x)))
+along-length : (c : Config) (any : List ℕ) (w : World) → length (busAlong c w any) ≡ length any
+unfolding busAlong
+along-length c [] w = refl
+along-length c (x ∷ later) w = ap suc (along-length c later (afterSlot c w (slotIn w x)))
 
 module _ (c : Config) (w : World) (bus commands reports : List ℕ) where
   abbrev n : ℕ
   n = countOf bus commands reports
 
   abbrev any : List ℕ
-  any = anyOf bus commands reports
+  any = usedOf bus commands reports
 
   -- the array that is handed in is as long as it was, and its first n halfwords are those that the bus carries
   same-length : length (handedOf c w bus commands reports) ≡ length bus
   unfolding handedOf
-  same-length = length-front bus (busesOf c w any) n (buses-length c any w)
+  same-length = length-front bus (busAlong c w any) n (along-length c any w)
 
-  first-buses : take n (handedOf c w bus commands reports) ≡ busesOf c w any
+  first-along : take n (handedOf c w bus commands reports) ≡ busAlong c w any
   unfolding handedOf
-  first-buses = take-at (busesOf c w any) (drop n bus) n (buses-length c any w ∙ length-take-le n bus (omega arith))
+  first-along = take-at (busAlong c w any) (drop n bus) n (along-length c any w ∙ length-take-le n bus (omega arith))
 
   -- what the call gives
   abbrev batch : Batch
@@ -67,8 +67,8 @@ module _ (c : Config) (w : World) (bus commands reports : List ℕ) where
       record { number = 0; count = n; machine = s .machine; commands = s .commands ++ drop n commands; reports = s .reports ++ drop n reports }
 
   batch-is : recordNumberOf (w .machine) ≡ 0 → batchIn c w bus commands reports ≡ batch
-  unfolding batchIn slotsOf batchOf
-  batch-is h = rw (eq-eqb _ _ h, same-length, first-buses, series-each c any w)
+  unfolding batchIn manySlotsOf batchOf
+  batch-is h = rw (eq-eqb _ _ h, same-length, first-along, series-each c any w)
 
   -- it is right, and keeps the invariant
   pub batch-right : Accepted c → Whole c w
@@ -78,5 +78,5 @@ module _ (c : Config) (w : World) (bus commands reports : List ℕ) where
       let all = slots-right any w a v in
       rw (batch-is (sound a v)) (
         all .0,
-        record { answered = refl; counted = refl; machine = refl; commands-sent = refl; reports-given = refl; each = all .1 },
+        record { answered = refl; count = refl; machine = refl; commands-sent = refl; reports-given = refl; each = all .1 },
       )

@@ -14,17 +14,17 @@ use Rattle.batch.proofs.run.Statement.{statement}
 use Rattle.batch.proofs.run.Tie as tie
 
 abbrev Inv-loop : tie.InvT-loop
-Inv-loop slots c ages₀ opened₀ rows₀ programmed₀ places₀ count must bus commands₀ reports₀ left₀ counters₀ current₀ run₀ i₀ ages opened rows programmed places commands reports left counters current run i =
+Inv-loop slots c ages₀ opened₀ rows₀ programmed₀ places₀ count must bus commands₀ reports₀ queued₀ counters₀ current₀ must-run₀ i₀ ages opened rows programmed places commands reports queued counters current must-run i =
     (i ≤ slots)
     × (0 < slots → Shaped (c .geometry))
     × ((length ages ≡ 16) × (length opened ≡ 4) × (length rows ≡ 4))
     × ((slots ≤ length bus) × (slots ≤ length commands) × (slots ≤ length reports))
     × ((length commands ≡ length commands₀) × (length reports ≡ length reports₀))
-    × (onwards i slots c (pastOf ages opened rows programmed) counters (controlOf current run) (queueOf places left) bus commands reports
-    ≡ onwards 0 slots c (pastOf ages₀ opened₀ rows₀ programmed₀) counters₀ (controlOf current₀ run₀) (queueOf places₀ left₀) bus commands₀ reports₀)
+    × (onwards i slots c (pastOf ages opened rows programmed) counters (controlOf current must-run) (queueOf places queued) bus commands reports
+    ≡ onwards 0 slots c (pastOf ages₀ opened₀ rows₀ programmed₀) counters₀ (controlOf current₀ must-run₀) (queueOf places₀ queued₀) bus commands₀ reports₀)
 
 abbrev μ-loop : tie.MeasureT-loop
-μ-loop slots c ages₀ opened₀ rows₀ programmed₀ places₀ count must bus commands₀ reports₀ left₀ counters₀ current₀ run₀ i₀ ages opened rows programmed places commands reports left counters current run i =
+μ-loop slots c ages₀ opened₀ rows₀ programmed₀ places₀ count must bus commands₀ reports₀ queued₀ counters₀ current₀ must-run₀ i₀ ages opened rows programmed places commands reports queued counters current must-run i =
     slots - i
 
 loop-holds : tie.Need-loop-holds Inv-loop μ-loop
@@ -97,7 +97,7 @@ returns c =
     let l = c .before .loop in
     let s = c .before .before .before .before .before in
     let a = s .args in
-    onwards-end (l .i) (a .slots) (a .c) (pastOf (l .ages) (l .opened) (l .rows) (l .programmed)) (l .counters) (controlOf (l .current) (l .run)) (queueOf (l .places) (l .left)) (a .bus .now) (l .commands) (l .reports) (omega (arith, l .inv .0))
+    onwards-end (l .i) (a .slots) (a .c) (pastOf (l .ages) (l .opened) (l .rows) (l .programmed)) (l .counters) (controlOf (l .current) (l .must-run)) (queueOf (l .places) (l .queued)) (a .bus .now) (l .commands) (l .reports) (omega (arith, l .inv .0))
     ∙ l .inv .5
     ∙ onwards-all (a .slots) (a .c) (pastOf (a .ages .now) (a .opened .now) (a .rows .now) (a .programmed .now)) (a .n) (controlOf (a .action) (a .must)) (queueOf (a .places .now) (a .count)) (a .bus .now) (a .commands .now) (a .reports .now)
 
