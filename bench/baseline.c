@@ -9,6 +9,9 @@
 #define SLOTS 10000000u
 #endif
 
+/* One slot in so many asks. */
+#define LOAD 8
+
 /* Is the backlog read after each slot? */
 #define READING 0
 
@@ -316,9 +319,9 @@ int main(void)
     uint32_t x = 2463534242u, h = 1, owed = 0;
     for (uint32_t n = 0; n < SLOTS; n++) {
         x = shuffle(x);
-        if (x % 8 == 0) {
+        if (x % LOAD == 0) {
             uint32_t number, address = x / 256 % 64 * 2048 + x / 16384 % 1024 * 2;
-            int answer = request(&m, x / 8 % 2 == 1, address, (uint16_t)(x / 65536), &number);
+            int answer = request(&m, x / LOAD % 2 == 1, address, (uint16_t)(x / 65536), &number);
             h = mix(mix(h, (uint32_t)answer), number);
         }
         Command k;

@@ -8,6 +8,9 @@ use sequencer::Requested;
 
 const SLOTS: u32 = 10000000;
 
+// One slot in so many asks.
+const LOAD: u32 = 8;
+
 // Is the backlog read after each slot?
 const READING: bool = false;
 
@@ -67,7 +70,7 @@ fn mix_report(digest: u32, report: Report) -> u32 {
 // A request of the stream's word x.
 fn asked(machine: Machine, x: u32) -> Requested {
     let address = x / 256 % 64 * 2048 + x / 16384 % 1024 * 2;
-    if x / 8 % 2 == 1 {
+    if x / LOAD % 2 == 1 {
         return machine.write(address, (x / 65536) as u16);
     }
     machine.read(address)
@@ -82,7 +85,7 @@ fn mix_reading(digest: u32, machine: Machine) -> u32 {
     digest
 }
 
-// A request in one slot of eight on the average, and a slot each time.
+// A request in one slot of LOAD on the average, and a slot each time.
 fn run() -> Bench {
     let made = Machine::configure(0x4620, 4, 136, 0x42215810);
     let mut machine = made.machine;
@@ -91,7 +94,7 @@ fn run() -> Bench {
     let mut n: u32 = 0;
     while n < SLOTS {
         x = shuffle(x);
-        if x % 8 == 0 {
+        if x % LOAD == 0 {
             let r = asked(machine, x);
             machine = r.machine;
             digest = mix(mix(digest, r.number as u32), r.request);
