@@ -61,10 +61,8 @@ pub fn run(
             must_run,
             bus[i],
         );
-        let command = turned.command;
-        let report = turned.report;
-        commands[i] = packing::pack_command(command);
-        reports[i] = packing::pack_report(report);
+        commands[i] = turned.sent;
+        reports[i] = turned.told;
         queued = turned.count;
         counters = turned.counters;
         current = turned.action;

@@ -59,7 +59,8 @@ abbrev pub keptOf : Past → Counters → Control → Queue → Parts
 keptOf p n x q = record { command = Nop; report = Nothing; past = p; counters = n; control = x; queue = q }
 
 abbrev pub refusedOf : ℕ → Counters → Action → Bool → Turned
-refusedOf count n action must = record { command = Nop; report = Nothing; action = action; counters = n; count = count; must = must }
+refusedOf count n action must =
+    record { command = Nop; report = Nothing; sent = 0; told = 0; action = action; counters = n; count = count; must = must }
 
 -- a slot is refused by any number but 0
 unfoldable pub turnedOf : ℕ → Config → Past → Counters → Control → Queue → ℕ → Parts

@@ -13,12 +13,15 @@ ghost use Rattle.queue.specs.Places.{queueOf};
 ghost use Rattle.plan.specs.Actions.{controlOf};
 ghost use Rattle.plan.specs.Plan.{queueAfter};
 ghost use Rattle.plan.specs.Slot.{tickedOf};
+ghost use Rattle.packing.specs.Packing.{commandWord, reportWord};
 ghost use Rattle.turn.specs.Parts.{gathered, steppedOf, refusedOf, turnedOf};
 
-// What a slot gives, beside what it changes in place: its command and report, and the machine's other parts after it.
+// What a slot gives, beside what it changes in place: its command and report, their words (docs/PACKING.md), and the machine's other parts after it.
 pub struct Turned {
     pub command: Command,
     pub report: Report,
+    pub sent: u64,
+    pub told: u64,
     pub action: Action,
     pub counters: Counters,
     pub count: u32,
@@ -62,21 +65,27 @@ pub fn step(
     requires { ⌜ Shaped (c .geometry) ⌝ }
     requires { ⌜ (length (now ages) ≡ 16) × (length (now opened) ≡ 4) × (length (now rows) ≡ 4) ⌝ }
     ensures { λ r. ⌜ gathered (pastOf (now (ages .exit)) (now (opened .exit)) (now (rows .exit)) (now (programmed .exit))) (now (places .exit)) r ≡ steppedOf c (pastOf (now (ages .entry)) (now (opened .entry)) (now (rows .entry)) (now (programmed .entry))) n (controlOf action must) (queueOf (now (places .entry)) count) bus ⌝ }
+    ensures { λ r. ⌜ (r .sent ≡ commandWord (r .command)) × (r .told ≡ reportWord (r .report)) ⌝ }
 {
     let ticked = ticked(c, n, action);
     let run = choice::must_after(action, must, ticked.backlog);
     let current = choice::current(action, run, ticked.backlog, places, count, opened);
     let carried = service::serve(c, ages, opened, rows, programmed, places, current, bus);
+    let command = carried.command;
+    let report = carried.report;
+    // Here, where the compiler still knows which command it is; a caller that does not use the words does not pay for them.
+    let sent = packing::pack_command(command);
+    let told = packing::pack_report(report);
     let at = actions::place(current);
     let counters = service::counters_after(ticked, carried.refreshes);
     let left = queue_after(places, count, at, carried.leaves);
     aging::elapse(ages);
-    let command = carried.command;
-    let report = carried.report;
     let next = carried.action;
     Turned {
         command,
         report,
+        sent,
+        told,
         action: next,
         counters,
         count: left,
@@ -91,6 +100,8 @@ fn refused(count: u32, n: Counters, action: Action, must: bool) -> Turned
     Turned {
         command: Command::Nop,
         report: Report::Nothing,
+        sent: 0,
+        told: 0,
         action,
         counters: n,
         count,

@@ -43,29 +43,23 @@ step-requires c κs =
     let l = c .before .before .before .before .before .before .before .loop in
     (l .inv .1 (omega arith), l .inv .2)
 
-pack-command-requires : tie.Need-pack-command-requires Inv-loop μ-loop
-pack-command-requires c κs = search needs
-
 mul-commands : tie.Need-mul-commands Inv-loop μ-loop
 mul-commands c =
-    let l = c .before .before .before .before .before .before .before .before .before .loop in
+    let l = c .before .before .before .before .before .before .before .before .loop in
     let here : l .i < length (l .commands) = omega (arith, l .inv .3 .1) in
-    scaled-fits (l .i) _ 8 (rw (← l .inv .4 .0) here) (c .before .before .before .before .before .before .before .before .before .before .before .before .before .good .1 .1 .1 .1 .1 .1 .1 .1 .1 .1 .1 .1 .0 .1)
+    scaled-fits (l .i) _ 8 (rw (← l .inv .4 .0) here) (c .before .before .before .before .before .before .before .before .before .before .before .before .good .1 .1 .1 .1 .1 .1 .1 .1 .1 .1 .1 .1 .0 .1)
 
 slice-write-commands : tie.Need-slice-write-commands Inv-loop μ-loop
-slice-write-commands c = let l = c .before .before .before .before .before .before .before .before .before .loop in omega (arith, l .inv .3 .1)
-
-pack-report-requires : tie.Need-pack-report-requires Inv-loop μ-loop
-pack-report-requires c κs = search needs
+slice-write-commands c = let l = c .before .before .before .before .before .before .before .before .loop in omega (arith, l .inv .3 .1)
 
 mul-reports : tie.Need-mul-reports Inv-loop μ-loop
 mul-reports c =
-    let l = c .before .before .before .before .before .before .before .before .before .before .loop in
+    let l = c .before .before .before .before .before .before .before .before .loop in
     let here : l .i < length (l .reports) = omega (arith, l .inv .3 .2) in
-    scaled-fits (l .i) _ 8 (rw (← l .inv .4 .1) here) (c .before .before .before .before .before .before .before .before .before .before .before .before .before .before .good .1 .1 .1 .1 .1 .1 .1 .1 .1 .1 .1 .1 .1 .0 .1)
+    scaled-fits (l .i) _ 8 (rw (← l .inv .4 .1) here) (c .before .before .before .before .before .before .before .before .before .before .before .before .good .1 .1 .1 .1 .1 .1 .1 .1 .1 .1 .1 .1 .1 .0 .1)
 
 slice-write-reports : tie.Need-slice-write-reports Inv-loop μ-loop
-slice-write-reports c = let l = c .before .before .before .before .before .before .before .before .before .before .loop in omega (arith, l .inv .3 .2)
+slice-write-reports c = let l = c .before .before .before .before .before .before .before .before .loop in omega (arith, l .inv .3 .2)
 
 add-i : tie.Need-add-i Inv-loop μ-loop
 add-i c = search needs
@@ -75,15 +69,15 @@ loop-less c = search needs
 
 loop-again : tie.Need-loop-again Inv-loop μ-loop
 loop-again c =
-    let l = c .before .before .before .before .before .before .before .before .before .before .before .loop in
-    let stepped = c .before .before .before .step .ensures in (
+    let l = c .before .before .before .before .before .before .before .before .before .loop in
+    let stepped = c .before .step .ensures in (
       omega arith,
       l .inv .1,
-      stepped-lengths _ _ _ _ _ _ stepped,
+      stepped-lengths _ _ _ _ _ _ (stepped .0),
       rw (length-set, length-set) (l .inv .3),
       rw (length-set, length-set) (l .inv .4),
-      rw (add-one, c .before .before .pack-command .ensures, c .before .pack-report .ensures)
-          (onwards-next (l .i) _ _ _ _ _ _ _ (l .commands) (l .reports) (omega arith) (l .inv .3 .0) (l .inv .3 .1) (l .inv .3 .2) stepped ∙ l .inv .5),
+      rw (add-one, stepped .1 .0, stepped .1 .1)
+          (onwards-next (l .i) _ _ _ _ _ _ _ (l .commands) (l .reports) (omega arith) (l .inv .3 .0) (l .inv .3 .1) (l .inv .3 .2) (stepped .0) ∙ l .inv .5),
     )
 
 same-length : tie.Need-same-length Inv-loop μ-loop
@@ -111,10 +105,8 @@ run-spec =
     mul-step
     shared-slice-read-step
     step-requires
-    pack-command-requires
     mul-commands
     slice-write-commands
-    pack-report-requires
     mul-reports
     slice-write-reports
     add-i

@@ -19,7 +19,7 @@ step-requires c κs =
 
 returns-2 : tie.Need-returns-2
 unfolding turnedOf
-returns-2 c = rw (eq-eqb _ _ (c .before .before .before .before .before .before .if1 .left)) (c .step .ensures)
+returns-2 c = rw (eq-eqb _ _ (c .before .before .before .before .before .before .if1 .left)) (c .step .ensures .0)
 
 pub turn-spec : {M : Type 1} → statement M
 turn-spec = tie.close (tie.spec refused-requires returns step-requires returns-2)
