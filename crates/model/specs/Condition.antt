@@ -7,7 +7,7 @@ use mathlib.Core.Bool.{Bool, true, cond, _&&_}
 use mathlib.Core.List.{List, [], _∷_, _++_, map, List·Memᴰ}
 use mathlib.Core.Option.{Option, none, some}
 use lib.Dec.{eqb, leb}
-use lib.ListN.{length, drop}
+use lib.ListN.{length, take, drop}
 use Rattle.config.specs.declared.Config.{Config}
 use Rattle.config.specs.Setting.{configOf}
 use Rattle.command.specs.declared.Command.{Command}
@@ -26,7 +26,8 @@ use Rattle.sequencer.specs.declared.Requested.{Requested}
 use Rattle.sequencer.specs.declared.Slot.{Slot}
 use Rattle.numbers.specs.Numbers.{lastNumber}
 use Rattle.sequencer.specs.Calls.{configureOf, recordNumberOf, readRequestOf, writeRequestOf, backlogOf}
-use Rattle.packing.specs.Packing.{commandWord, reportWord}
+use Rattle.packing.specs.Packing.{commandWord, commandIn, reportWord, reportIn}
+use Rattle.packing.specs.Laws.{FitsCommand, FitsReport}
 use Rattle.sequencer.specs.Batch.{Batch}
 use Rattle.model.specs.Sdram.{Cells, takes}
 use Rattle.model.specs.World.{
@@ -146,6 +147,9 @@ pub record Carried (c : Config) (w : World) (s : Slot) : Type 0 where
   -- the SDRAM takes the command
   pub taken : takes c (w .sdram) (s .command) ≡ true
   pub reports : Reports w (s .report)
+  -- both have words (docs/PACKING.md)
+  pub fits-command : FitsCommand (s .command)
+  pub fits-report : FitsReport (s .report)
   -- within the slot, before its own REFR is counted: the backlog that a service slot's choice sees
   pub owed : refreshes c w ≤ expiries c (w .sdram .log .now + 1)
   pub within : InBounds (expiries c (w .sdram .log .now + 1) - refreshes c w)
@@ -167,6 +171,9 @@ pub record CarriedAll (c : Config) (w : World) (bus commands reports : List ℕ)
   pub machine : r .machine ≡ afterSlots c w (usedOf bus commands reports) .machine
   pub commands-sent : r .commands ≡ map (λ s. commandWord (s .command)) (slotsAlong c w (usedOf bus commands reports)) ++ drop (countOf bus commands reports) commands
   pub reports-given : r .reports ≡ map (λ s. reportWord (s .report)) (slotsAlong c w (usedOf bus commands reports)) ++ drop (countOf bus commands reports) reports
+  -- unpacked, the words are their commands and reports
+  pub commands-unpacked : map commandIn (take (countOf bus commands reports) (r .commands)) ≡ map (λ s. s .command) (slotsAlong c w (usedOf bus commands reports))
+  pub reports-unpacked : map reportIn (take (countOf bus commands reports) (r .reports)) ≡ map (λ s. s .report) (slotsAlong c w (usedOf bus commands reports))
   pub each : EachCarried c w (usedOf bus commands reports)
 
 -- The reading call gives exactly the backlog.

@@ -35,13 +35,17 @@ pub record World : Type 0 where
   -- the numbers that reports carried so far
   pub reported : List ℕ
 
+-- every cell holds a halfword
+abbrev pub halfwordsOf : Cells → Cells
+halfwordsOf first = λ x. halfwordOf (first x)
+
 -- the machine that configuration c gives, a device that c describes, whatever its cells hold, and the flat memory beside it
 unfoldable pub startWorld : Config → Machine → Cells → World
 startWorld c m first =
     record {
       machine = m;
-      sdram = startSdram first;
-      flat = startFlat (c .geometry) first;
+      sdram = startSdram (halfwordsOf first);
+      flat = startFlat (c .geometry) (halfwordsOf first);
       reported = [];
     }
 
@@ -51,7 +55,7 @@ busOr none any = any
 busOr (some h) any = h
 
 unfoldable pub busOf : World → ℕ → ℕ
-busOf w any = busOr (drivenIn (w .sdram .log .now) (w .sdram .driven)) any
+busOf w any = busOr (drivenIn (w .sdram .log .now) (w .sdram .driven)) (halfwordOf any)
 
 -- the numbers reported, after a slot's report
 abbrev pub numbered : Option Completion → List ℕ → List ℕ

@@ -3,16 +3,18 @@ use Prim.Native.Nat.{ℕ, suc}
 use native.Mathlib.Omega.{arith}
 use mathlib.Core.Path.{_≡_, refl, ap, _∙_}
 use mathlib.Core.List.{List, [], _∷_, _++_, map}
-use lib.ListN.{length, take, drop}
+use lib.ListN.{length, take, drop, length-map}
 use lib.Seq.{length-front, take-at, length-take-le}
 use borrow.Author.Tests.{eq-eqb}
 use Rattle.config.specs.declared.Config.{Config}
 use Rattle.config.specs.Accepted.{Accepted}
-use Rattle.packing.specs.Packing.{commandWord, reportWord}
+use Rattle.packing.specs.Packing.{commandWord, commandIn, reportWord, reportIn}
+use Rattle.packing.proofs.Laws.{packed-commands, packed-reports}
+use Rattle.sequencer.specs.declared.Slot.{Slot}
 use Rattle.sequencer.specs.Calls.{recordNumberOf}
 use Rattle.sequencer.specs.Batch.{Series, before, seriesOf, Batch, batchOf, manySlotsOf}
 use Rattle.model.specs.World.{World, slotIn, afterSlot, afterSlots, busAlong, countOf, usedOf, handedOf, batchIn, afterBatch}
-use Rattle.model.specs.Condition.{slotsAlong, EachCarried, CarriedAll}
+use Rattle.model.specs.Condition.{slotsAlong, Carried, EachCarried, CarriedAll}
 use Rattle.theorem.proofs.Standing.{Whole, sound, standing}
 use Rattle.theorem.proofs.Slot.{slot-right}
 
@@ -44,12 +46,39 @@ unfolding busAlong
 along-length c [] w = refl
 along-length c (x ∷ later) w = ap suc (along-length c later (afterSlot c w (slotIn w x)))
 
+slots-length : (c : Config) (any : List ℕ) (w : World) → length (slotsAlong c w any) ≡ length any
+slots-length c [] w = refl
+slots-length c (x ∷ later) w = ap suc (slots-length c later (afterSlot c w (slotIn w x)))
+
+-- the word of a right slot's command unpacks to that command, and its report's to that report
+command-back : (c : Config) (w : World) (s : Slot) → Carried c w s → commandIn (commandWord (s .command)) ≡ s .command
+command-back c w s h = packed-commands .packed (s .command) (h .fits-command) .2
+
+report-back : (c : Config) (w : World) (s : Slot) → Carried c w s → reportIn (reportWord (s .report)) ≡ s .report
+report-back c w s h = packed-reports .packed (s .report) (h .fits-report) .2
+
+-- the words of such a part of each slot, one after the other, and with others behind them
+module _ {A : Type 0} (c : Config) (pack : A → ℕ) (unpack : ℕ → A) (part : Slot → A)
+    (back : (w : World) (s : Slot) → Carried c w s → unpack (pack (part s)) ≡ part s) where
+  unpacked : (any : List ℕ) (w : World) → EachCarried c w any → map unpack (map (λ s. pack (part s)) (slotsAlong c w any)) ≡ map part (slotsAlong c w any)
+  unpacked [] w each = refl
+  unpacked (x ∷ later) w each = rw (back w (slotIn w x) (each .1), unpacked later (afterSlot c w (slotIn w x)) (each .2))
+
+  first-unpacked : (any : List ℕ) (w : World) → EachCarried c w any → (n : ℕ) → length any ≡ n → (behind : List ℕ)
+      → map unpack (take n (map (λ s. pack (part s)) (slotsAlong c w any) ++ behind)) ≡ map part (slotsAlong c w any)
+  first-unpacked any w each n long behind =
+      rw (take-at (map (λ s. pack (part s)) (slotsAlong c w any)) behind n (length-map (slotsAlong c w any) (λ s. pack (part s)) ∙ slots-length c any w ∙ long))
+      (unpacked any w each)
+
 module _ (c : Config) (w : World) (bus commands reports : List ℕ) where
   abbrev n : ℕ
   n = countOf bus commands reports
 
   abbrev any : List ℕ
   any = usedOf bus commands reports
+
+  used-length : length any ≡ n
+  used-length = length-take-le n bus (omega arith)
 
   -- the array that is handed in is as long as it was, and its first n halfwords are those that the bus carries
   same-length : length (handedOf c w bus commands reports) ≡ length bus
@@ -58,7 +87,7 @@ module _ (c : Config) (w : World) (bus commands reports : List ℕ) where
 
   first-along : take n (handedOf c w bus commands reports) ≡ busAlong c w any
   unfolding handedOf
-  first-along = take-at (busAlong c w any) (drop n bus) n (along-length c any w ∙ length-take-le n bus (omega arith))
+  first-along = take-at (busAlong c w any) (drop n bus) n (along-length c any w ∙ used-length)
 
   -- what the call gives
   abbrev batch : Batch
@@ -78,5 +107,14 @@ module _ (c : Config) (w : World) (bus commands reports : List ℕ) where
       let all = slots-right any w a v in
       rw (batch-is (sound a v)) (
         all .0,
-        record { answered = refl; count = refl; machine = refl; commands-sent = refl; reports-given = refl; each = all .1 },
+        record {
+          answered = refl;
+          count = refl;
+          machine = refl;
+          commands-sent = refl;
+          reports-given = refl;
+          commands-unpacked = first-unpacked c commandWord commandIn (λ s. s .command) (command-back c) any w (all .1) n used-length (drop n commands);
+          reports-unpacked = first-unpacked c reportWord reportIn (λ s. s .report) (report-back c) any w (all .1) n used-length (drop n reports);
+          each = all .1;
+        },
       )

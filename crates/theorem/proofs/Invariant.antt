@@ -1,4 +1,4 @@
--- What holds in every world that calls can make, in three parts, each kept by every call: the device's past; order and memory; refresh.
+-- What holds in every world that calls can make, in four parts, each kept by every call: the device's past; order and memory; refresh; ranges.
 use Prim.Native.Nat.{ℕ, _+_, _-_, _%_, _≤_, _<_, max}
 use mathlib.Core.Path.{_≡_}
 use mathlib.Core.Bool.{true, cond}
@@ -53,6 +53,7 @@ use Rattle.plan.specs.declared.Action.the-variants.{
   Refresh,
   RefreshCycle,
 }
+use Rattle.numbers.specs.Numbers.{lastNumber}
 use Rattle.model.specs.Sdram.{Sdram, Cells, drivenIn}
 use Rattle.model.specs.Flat.{Flat}
 use Rattle.model.specs.World.{World}
@@ -227,3 +228,9 @@ pub record Timely (c : Config) (p : Past) (q : Queue) (a : Action) (n : Counters
   pub bounded : needOf c p q a < c .rr
   pub low : n .backlog ≤ 12
   pub full : n .backlog ≡ 12 → needOf c p q a < n .interval
+
+-- Part D: ranges. The flat memory holds and gave halfwords, and no more requests were accepted than have numbers; so every report has a word.
+pub record Ranged (f : Flat) : Type 0 where
+  pub contents : (a : ℕ) → f .contents a < 65536
+  pub given : (n : ℕ) → f .given n < 65536
+  pub count : f .count ≤ lastNumber

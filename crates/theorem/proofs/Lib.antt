@@ -1,4 +1,4 @@
--- The proof of the third condition: the invariant and its three parts, what every call does to each, and the theorem.
+-- The proof of the third condition: the invariant and its four parts, what every call does to each, and the theorem.
 pub mod Invariant
 pub mod Calls
 pub mod Plans
@@ -6,6 +6,7 @@ pub mod Order
 pub mod Timing
 pub mod Start
 pub mod Refreshes
+pub mod Ranges
 pub mod Standing
 pub mod Requests
 pub mod Slot

@@ -25,6 +25,7 @@ use Rattle.theorem.proofs.Calls.{request-cases}
 use Rattle.theorem.proofs.Standing.{Phase, Whole, sound}
 use Rattle.theorem.proofs.Invariant.{Ordered}
 use Rattle.theorem.proofs.Order.Queue.{ordered-request}
+use Rattle.theorem.proofs.Ranges.{ranged-taken}
 use Rattle.theorem.proofs.Timing.Service.{timely-arrive, queued-doing}
 
 -- the address's number and the room's, as one sees them from outside
@@ -94,6 +95,7 @@ module _ (w : World) (v : Whole (w .machine .config) w) (kind : Kind) (address h
         ordered = request-ordered;
         waiting = let e = accept-count (w .machine .queue) r (room .room) in omega (arith, e, v .waiting);
         timed = request-timed (inService (w .machine .control .action)) (v .timed);
+        ranged = ranged-taken (v .ranged) kind address halfword fits (omega (arith, room .number, v .ordered .counted));
       }
 
 -- a refused one changes nothing

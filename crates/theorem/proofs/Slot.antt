@@ -7,7 +7,6 @@ use mathlib.Core.Bool.{Bool, true, false, cond, false≢true}
 use lib.ListN.{length}
 use Rattle.config.specs.declared.Config.{Config}
 use Rattle.config.specs.Accepted.{Accepted}
-use Rattle.config.proofs.Laws.{accepted}
 use Rattle.device.specs.View.{allClosed}
 use Rattle.device.specs.History.{fed, allowed}
 use Rattle.device.proofs.Tests.{if-both}
@@ -39,20 +38,21 @@ use Rattle.plan.specs.Actions.{isIdle, inService, underWay}
 use Rattle.plan.specs.Plan.{planOf, countersAfter}
 use Rattle.plan.specs.Choice.{Choice, choiceOf, currentOf}
 use Rattle.plan.specs.Slot.{tickedOf}
+use Rattle.packing.specs.Laws.{FitsCommand}
 use Rattle.soundness.proofs.Plans.{Served, servedOf, Sends, performed-sends}
 use Rattle.sequencer.specs.declared.Machine.{Machine}
 use Rattle.sequencer.specs.declared.Slot.{Slot}
 use Rattle.model.specs.Sdram.{takes, sdramAfter}
-use Rattle.model.specs.World.{World, slot, backlog, busOf, slotIn, afterSlot, after}
-use Rattle.model.specs.Condition.{isRefr, firstService, servedBy, serviceRefreshes, expiries, refreshes, Carried}
+use Rattle.model.specs.World.{World, busOf, slotIn, afterSlot}
+use Rattle.model.specs.Condition.{isRefr, firstService, servedBy, serviceRefreshes, expiries, refreshes, Reports, Carried}
 use Rattle.theorem.proofs.Invariant.{Settled}
 use Rattle.sequencer.proofs.Laws.{slot-steps}
 use Rattle.theorem.proofs.Plans.{countersOf, chosenOf, actedOf, afterOf, step-is}
 use Rattle.theorem.proofs.Order.Queue.{ordered-current}
 use Rattle.theorem.proofs.Order.Slot.{Acted, bus-carries, ordered-act}
 use Rattle.theorem.proofs.Refreshes.{refreshes-before, refreshes-after}
+use Rattle.theorem.proofs.Ranges.{report-fits, command-fits}
 use Rattle.theorem.proofs.Standing.{Before, During, Phase, Whole, sound, none-served}
-use Rattle.theorem.proofs.Requests.{answered}
 use Rattle.theorem.proofs.Start.{Starting, starting-slot, starting-below, starting-done, starting-keeps, starting-busy, done-set}
 use Rattle.theorem.proofs.Timing.Service.{Ends, timely-slot, timely-first}
 
@@ -125,6 +125,14 @@ module _ (w : World) (a : Accepted (w .machine .config)) (v : Whole (w .machine 
   unfolding takes
   slot-taken = slot-allowed
 
+  slot-reports : Reports w (s .outcome .report)
+  slot-reports = acted .reports w refl refl
+
+  -- the command has a word
+  slot-fits : FitsCommand (s .command)
+  unfolding actedOf
+  slot-fits = command-fits a (m .past) (x .queue) (underWay (x .control .action)) (x .control .action) (busOf w any)
+
   -- the slot keeps the invariant, given its part of refresh
   slot-whole : Phase c (afterSlot c w now) (inService (s .outcome .action)) → Whole c (afterSlot c w now)
   unfolding afterSlot afterOf
@@ -134,6 +142,7 @@ module _ (w : World) (a : Accepted (w .machine .config)) (v : Whole (w .machine 
         ordered = acted .ordered;
         waiting = acted .counted ∙ ap (λ (q : Queue). q .count + length (w .reported)) same-queue ∙ v .waiting;
         timed = t;
+        ranged = v .ranged;
       }
 
   -- A service slot.
@@ -185,7 +194,9 @@ module _ (w : World) (a : Accepted (w .machine .config)) (v : Whole (w .machine 
         record {
           answered = refl;
           taken = slot-taken;
-          reports = acted .reports w refl refl;
+          reports = slot-reports;
+          fits-command = slot-fits;
+          fits-report = report-fits w (v .ranged) (s .outcome .report) slot-reports;
           owed = rw more (omega (arith, total));
           within = rw more (omega (arith, total, ends .low));
           counted = λ e. rw (← counted, more) (omega (arith, total));
@@ -240,7 +251,9 @@ module _ (w : World) (a : Accepted (w .machine .config)) (v : Whole (w .machine 
         record {
           answered = refl;
           taken = slot-taken;
-          reports = acted .reports w refl refl;
+          reports = slot-reports;
+          fits-command = slot-fits;
+          fits-report = report-fits w (v .ranged) (s .outcome .report) slot-reports;
           owed = omega (arith, b .none);
           within = omega (arith, empty);
           counted = λ e. absurd (false≢true (sym starting ∙ e));

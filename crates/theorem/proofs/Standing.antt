@@ -43,7 +43,7 @@ use Rattle.model.specs.Sdram.{Sdram}
 use Rattle.model.specs.Flat.{Flat}
 use Rattle.model.specs.World.{World}
 use Rattle.model.specs.Condition.{firstService, servedBy, expiries, refreshes, Standing, Exact}
-use Rattle.theorem.proofs.Invariant.{Kept, Doing, Ordered, Settled, Timely}
+use Rattle.theorem.proofs.Invariant.{Kept, Doing, Ordered, Settled, Timely, Ranged}
 use Rattle.theorem.proofs.Order.Queue.{ordered-agree}
 use Rattle.theorem.proofs.Calls.{backlog-reads}
 use Rattle.theorem.proofs.Start.{Starting, starting-below}
@@ -71,6 +71,7 @@ pub record Whole (c : Config) (w : World) : Type 0 where
   pub ordered : Ordered (c .geometry) (w .machine .queue) (w .machine .control .action) (w .machine .accepted) (w .sdram) (w .flat) (w .reported)
   pub waiting : w .machine .queue .count + length (w .reported) ≡ w .machine .accepted
   pub timed : Phase c w (inService (w .machine .control .action))
+  pub ranged : Ranged (w .flat)
 
 -- of either time, what the standing parts need
 pub record Tally (c : Config) (w : World) : Type 0 where

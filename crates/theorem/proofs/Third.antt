@@ -20,9 +20,10 @@ use Rattle.sequencer.specs.declared.Configured.{Configured}
 use Rattle.sequencer.specs.Calls.{configuredBy, configureOf}
 use Rattle.sequencer.specs.Machine.{blankOf, machineOf}
 use Rattle.model.specs.Sdram.{Cells, startSdram}
-use Rattle.model.specs.World.{World, halfwordOf, Call, read, write, slot, slots, backlog, startWorld, after}
+use Rattle.model.specs.World.{World, halfwordOf, halfwordsOf, Call, read, write, slot, slots, backlog, startWorld, after}
 use Rattle.model.specs.Condition.{Right, Promised, ThirdCondition}
 use Rattle.theorem.proofs.Order.Queue.{ordered-start}
+use Rattle.theorem.proofs.Ranges.{ranged-start}
 use Rattle.theorem.proofs.Slot.{slot-right}
 use Rattle.theorem.proofs.Batch.{batch-right}
 use Rattle.theorem.proofs.Standing.{Whole, standing, exact}
@@ -52,9 +53,10 @@ unfolding startWorld machineOf startSdram startLog emptyOf
 start-world c a first =
     record {
       kept = record { configured = refl; config = refl; agrees = agrees-fresh };
-      ordered = ordered-start (c .geometry) first (8 * c .rr);
+      ordered = ordered-start (c .geometry) (halfwordsOf first) (8 * c .rr);
       waiting = refl;
       timed = record { starting = starting-first c a; counters = refl; none = refl };
+      ranged = ranged-start (c .geometry) first;
     }
 
 -- the configuration call by its test
