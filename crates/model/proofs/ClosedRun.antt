@@ -1,6 +1,6 @@
 -- Closed lists of calls, computed: the third condition is not about an empty set of runs, and a claim that says something else is refuted by a
 -- figure. The first has refusals, a Must run, and a read that is served before an older write; the second a read, a write and a read of one
--- address.
+-- address, slot by slot and in one call.
 use Prim.Native.Nat.{ℕ, zero, suc, _+_, _-_}
 use mathlib.Core.Path.{_≡_, refl}
 use mathlib.Core.Logic.{⊎-elim}
@@ -8,7 +8,7 @@ use mathlib.Core.Bool.{Bool, true, _&&_, not}
 use mathlib.Core.List.{List, [], _∷_, _++_, map, List·Memᴰ, List·Memᴰ·not-nil, List·Memᴰ·cases-cons}
 use mathlib.Core.Option.{some}
 use lib.Dec.{eqb}
-use lib.ListN.{length, take, drop}
+use lib.ListN.{length, take, drop, replicate}
 use borrow.Author.Tests.{leb-true, eqb-false, not-true}
 use Rattle.words.specs.Words.{reservedMap, reservedAll}
 use Rattle.config.specs.Setting.{offeredOf, geometryOf, configOf, checkedOf, settingOf}
@@ -27,7 +27,10 @@ use Rattle.plan.specs.Plan as plan
 use Rattle.plan.specs.Choice.{rulesOf, choiceOf, currentOf}
 use Rattle.plan.specs.Slot.{tickedOf, turnOf}
 use Rattle.plan.specs.Completion.{readDone, writeDone, completionOf}
+use Rattle.plan.specs.declared.Report.{Report}
+use Rattle.packing.specs.Packing.{wordOf, commandWord, reportWord}
 use Rattle.sequencer.specs.declared.Machine.{Machine}
+use Rattle.sequencer.specs.Batch.{seriesOf, batchOf, manySlotsOf}
 use Rattle.sequencer.specs.Machine.{blankOf, machineOf, stepOf}
 use Rattle.numbers.specs.Sound.{stateBy, fitBy, soundBy}
 use Rattle.numbers.specs.Numbers.{recordNumberBy, roomNumberOf, requestNumberBy}
@@ -44,7 +47,26 @@ use Rattle.sequencer.specs.Calls.{
 use Rattle.model.specs.Sdram.{stored, startSdram, cellsAfter, drivenAfter, takes, sdramAfter}
 use Rattle.model.specs.Flat.{startFlat, taken, flatAfter}
 use Rattle.model.specs.Condition.{firstService, expiries, refreshes, InBounds, Reports}
-use Rattle.model.specs.World.{World, Call, read, write, slot, startWorld, busOf, slotIn, afterSlot, afterRequest, after, played}
+use Rattle.model.specs.World.{
+  World,
+  Call,
+  read,
+  write,
+  slot,
+  slots,
+  startWorld,
+  busOf,
+  slotIn,
+  afterSlot,
+  afterSlots,
+  busAlong,
+  handedOf,
+  batchIn,
+  afterBatch,
+  afterRequest,
+  after,
+  played,
+}
 
 -- a list n times
 pub times : ℕ → List Call → List Call
@@ -77,6 +99,13 @@ brim = world (opening ++ (times 80 (read 0x800 ∷ times 4 (slot 0 ∷ [])) ++ r
 -- a read of address 2, a write of it and a read of it, all accepted before slot 1, after so many slots
 pub chain : ℕ → World
 chain n = world (read 2 ∷ write 2 65535 ∷ read 2 ∷ times n (slot 0 ∷ []))
+
+-- its last eight slots in one call: the array for commands is the shortest
+pub at-once : World
+at-once = after (machine .config) (chain 228) (slots (replicate 12 0) (replicate 8 9) (replicate 10 9))
+
+pub told-words : List ℕ
+told-words = batchIn (machine .config) (chain 228) (replicate 12 0) (replicate 8 9) (replicate 10 9) .reports
 
 -- is a number not among these?
 abbrev absent : ℕ → List ℕ → Bool
@@ -137,9 +166,15 @@ pub record ClosedClaim : Type 0 where
   pub once : chain 236 .reported ≡ 3 ∷ 2 ∷ 1 ∷ []
   pub flat-written : chain 236 .flat .contents 2 ≡ 65535
   pub cells-written : chain 236 .sdram .cells (cellAt 0 0 1) ≡ 65535
+  -- in one call they are the same: the reports' words, with what was behind them, the numbers, the cell
+  pub told-at-once :
+      told-words
+      ≡ 0 ∷ 0 ∷ reportWord (Report.Read 1 5) ∷ 0 ∷ reportWord (Report.Write 2) ∷ 0 ∷ 0 ∷ reportWord (Report.Read 3 65535) ∷ 9 ∷ 9 ∷ []
+  pub once-at-once : at-once .reported ≡ 3 ∷ 2 ∷ 1 ∷ []
+  pub written-at-once : at-once .sdram .cells (cellAt 0 0 1) ≡ 65535
 
 pub closed-claim : ClosedClaim
-unfolding firstService expiriesOf times machine world opening brim chain settingOf reservedAll reservedMap offeredOf checkedOf configOf geometryOf addressNumberOf capacityOf cellOf holdsOf allClosed marksOf rowOf R7 R12-open R13-open R14 requirements legalOf last openRow startLog fed freshOf openIn rowIn openRows agedOf agesAfter sentOf carriedOf emptyOf acceptOf storedOf removeOf shiftedOf getOf requestAt requestIn kindIn blockedOf readyOf oldestOf startOf tickOf refreshedOf soundCounters levelOf soundAction plan.quietly plan.outcomeOf plan.tries plan.rest plan.afterPause plan.afterInitRefresh plan.readPlan plan.writePlan plan.transferPlan plan.accessPlan plan.takenPlan plan.latencyPlan plan.cycleLeft plan.refreshPlan plan.planOf plan.queueAfter plan.countersAfter rulesOf choiceOf currentOf tickedOf turnOf blankOf machineOf stepOf stateBy fitBy soundBy configAccepted shapedOf distancesOf spannedOf configuredBy configureOf recordNumberBy roomNumberOf requestNumberBy queuedRequest enqueuedOf requestOf slotOf stored startSdram cellsAfter drivenAfter takes sdramAfter startFlat taken flatAfter startWorld busOf slotIn afterSlot afterRequest after played
+unfolding at-once told-words wordOf reportWord commandWord seriesOf batchOf manySlotsOf afterSlots busAlong handedOf batchIn afterBatch firstService expiriesOf times machine world opening brim chain settingOf reservedAll reservedMap offeredOf checkedOf configOf geometryOf addressNumberOf capacityOf cellOf holdsOf allClosed marksOf rowOf R7 R12-open R13-open R14 requirements legalOf last openRow startLog fed freshOf openIn rowIn openRows agedOf agesAfter sentOf carriedOf emptyOf acceptOf storedOf removeOf shiftedOf getOf requestAt requestIn kindIn blockedOf readyOf oldestOf startOf tickOf refreshedOf soundCounters levelOf soundAction plan.quietly plan.outcomeOf plan.tries plan.rest plan.afterPause plan.afterInitRefresh plan.readPlan plan.writePlan plan.transferPlan plan.accessPlan plan.takenPlan plan.latencyPlan plan.cycleLeft plan.refreshPlan plan.planOf plan.queueAfter plan.countersAfter rulesOf choiceOf currentOf tickedOf turnOf blankOf machineOf stepOf stateBy fitBy soundBy configAccepted shapedOf distancesOf spannedOf configuredBy configureOf recordNumberBy roomNumberOf requestNumberBy queuedRequest enqueuedOf requestOf slotOf stored startSdram cellsAfter drivenAfter takes sdramAfter startFlat taken flatAfter startWorld busOf slotIn afterSlot afterRequest after played
 closed-claim =
     record {
       twelve = refl;
@@ -152,4 +187,7 @@ closed-claim =
       once = refl;
       flat-written = refl;
       cells-written = refl;
+      told-at-once = refl;
+      once-at-once = refl;
+      written-at-once = refl;
     }

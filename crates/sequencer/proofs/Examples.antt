@@ -44,6 +44,7 @@ use Rattle.plan.specs.Actions.{soundAction}
 use Rattle.plan.specs.Plan as plan
 use Rattle.plan.specs.Choice as choice
 use Rattle.plan.specs.Slot.{tickedOf, turnOf}
+use Rattle.packing.specs.Packing.{wordOf, commandWord, reportWord}
 use Rattle.sequencer.specs.declared.Machine.{Machine}
 use Rattle.sequencer.specs.declared.Configured.{Configured}
 use Rattle.sequencer.specs.declared.Requested.{Requested}
@@ -64,6 +65,7 @@ use Rattle.sequencer.specs.Calls.{
   slotOf,
   backlogOf,
 }
+use Rattle.sequencer.specs.Batch.{Batch, seriesOf, batchOf, manySlotsOf}
 
 -- E1's configuration, with other widths: CL 2, all distances 1, RR 27
 abbrev shaped : ℕ → ℕ → ℕ → Config
@@ -318,6 +320,40 @@ slots =
     (serving (sentOf (known false) Refr) (counted 8 11) true emptyOf Idle)
     ∷ []
 
+-- Many slots: the number and the count, and both arrays after the call.
+abbrev shown : Batch → List (List ℕ)
+shown r = (r .number ∷ r .count ∷ []) ∷ r .commands ∷ r .reports ∷ []
+
+-- a read's halfword comes in the second slot; a WRT
+abbrev reading : Machine
+reading = serving (known true) (counted 9 0) false oneRead (CasLatency 0 2)
+
+abbrev writing : Machine
+writing = serving (known true) (counted 9 0) false (filled 1) Idle
+
+abbrev three : List ℕ
+three = 5 ∷ 6 ∷ 7 ∷ []
+
+many : List Batch
+many =
+    manySlotsOf (loaded 28 1 1) three three three
+    ∷ manySlotsOf blankOf three three three
+    ∷ manySlotsOf reading [] three three
+    ∷ manySlotsOf reading three three (8 ∷ 9 ∷ 10 ∷ 11 ∷ [])
+    ∷ manySlotsOf writing three (8 ∷ 9 ∷ []) three
+    ∷ manySlotsOf writing three three (8 ∷ [])
+    ∷ []
+
+shownMany : List (List (List ℕ))
+shownMany =
+    ((9 ∷ 0 ∷ []) ∷ three ∷ three ∷ [])
+    ∷ ((8 ∷ 0 ∷ []) ∷ three ∷ three ∷ [])
+    ∷ ((0 ∷ 0 ∷ []) ∷ three ∷ three ∷ [])
+    ∷ ((0 ∷ 3 ∷ []) ∷ (0 ∷ 0 ∷ 0 ∷ []) ∷ (0 ∷ 0x100060001 ∷ 0 ∷ 11 ∷ []) ∷ [])
+    ∷ ((0 ∷ 2 ∷ []) ∷ (0x700000003 ∷ 0 ∷ []) ∷ (0x100000002 ∷ 0 ∷ 7 ∷ []) ∷ [])
+    ∷ ((0 ∷ 1 ∷ []) ∷ (0x700000003 ∷ 6 ∷ 7 ∷ []) ∷ (0x100000002 ∷ []) ∷ [])
+    ∷ []
+
 -- `room`: a queue of eight that one request has left has room for one. `last`: the last number is given.
 record Examples : Type 0 where
   soundness : map soundOf sound ++ map soundOf unsound ≡ replicate 22 true ++ replicate 30 false
@@ -337,10 +373,12 @@ record Examples : Type 0 where
             Turnaround 4294967295;
       }
   steps : map (λ r. slotOf (r .machine) (r .bus)) slots ≡ map (λ r. r .given) slots
+  batches : map shown many ≡ shownMany
+  batch-machine : manySlotsOf reading three three three .machine ≡ serving (known true) (counted 6 0) false emptyOf Idle
   readings :
       map backlogOf (loaded 28 0 0 ∷ blankOf ∷ machineOf e1 ∷ at e1 (counted 1 15) emptyOf Idle ∷ [])
       ≡ record { number = 9; backlog = 0 } ∷ record { number = 8; backlog = 0 } ∷ record { number = 0; backlog = 0 } ∷ record { number = 0; backlog = 15 } ∷ []
 
 examples : Examples
-unfolding sound unsound refusals slots configuredBy configureOf recordNumberBy roomNumberOf requestNumberBy queuedRequest enqueuedOf requestOf refusedWith slotOf backlogOf blankOf machineOf stepOf configAccepted shapedOf distancesOf spannedOf stateBy fitBy soundBy soundAction reservedMap reservedAll offeredOf geometryOf configOf checkedOf settingOf capacityOf cellOf holdsOf addressNumberOf allClosed marksOf rowOf legalOf requirements R7 R12-open R13-open R14 freshOf openIn rowIn openRows agedOf agesAfter sentOf carriedOf emptyOf acceptOf storedOf removeOf shiftedOf getOf requestAt requestIn kindIn blockedOf readyOf oldestOf counting.startOf counting.tickOf counting.refreshedOf counting.soundCounters levelOf plan.quietly plan.outcomeOf plan.tries plan.rest plan.afterPause plan.afterInitRefresh plan.readPlan plan.writePlan plan.transferPlan plan.accessPlan plan.takenPlan plan.latencyPlan plan.cycleLeft plan.refreshPlan plan.planOf plan.queueAfter plan.countersAfter choice.rulesOf choice.choiceOf choice.currentOf tickedOf turnOf
-examples = record { soundness = refl; configured = refl; reads = refl; writes = refl; room = refl; last = refl; steps = refl; readings = refl }
+unfolding sound unsound refusals slots many shownMany seriesOf batchOf manySlotsOf wordOf commandWord reportWord configuredBy configureOf recordNumberBy roomNumberOf requestNumberBy queuedRequest enqueuedOf requestOf refusedWith slotOf backlogOf blankOf machineOf stepOf configAccepted shapedOf distancesOf spannedOf stateBy fitBy soundBy soundAction reservedMap reservedAll offeredOf geometryOf configOf checkedOf settingOf capacityOf cellOf holdsOf addressNumberOf allClosed marksOf rowOf legalOf requirements R7 R12-open R13-open R14 freshOf openIn rowIn openRows agedOf agesAfter sentOf carriedOf emptyOf acceptOf storedOf removeOf shiftedOf getOf requestAt requestIn kindIn blockedOf readyOf oldestOf counting.startOf counting.tickOf counting.refreshedOf counting.soundCounters levelOf plan.quietly plan.outcomeOf plan.tries plan.rest plan.afterPause plan.afterInitRefresh plan.readPlan plan.writePlan plan.transferPlan plan.accessPlan plan.takenPlan plan.latencyPlan plan.cycleLeft plan.refreshPlan plan.planOf plan.queueAfter plan.countersAfter choice.rulesOf choice.choiceOf choice.currentOf tickedOf turnOf
+examples = record { soundness = refl; configured = refl; reads = refl; writes = refl; room = refl; last = refl; steps = refl; batches = refl; batch-machine = refl; readings = refl }

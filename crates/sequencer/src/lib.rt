@@ -15,7 +15,7 @@ ghost use Prim.Native.Nat.{_≤_, _<_, min};
 ghost use mathlib.Core.Bool.{cond};
 ghost use lib.Dec.{eqb};
 ghost use Rattle.numbers.specs.Numbers.{lastNumber};
-ghost use Rattle.sequencer.specs.Machine.{blankOf, machineOf};
+ghost use Rattle.sequencer.specs.Machine.{machineWith, blankOf, machineOf};
 ghost use Rattle.sequencer.specs.Calls.{
   configuredBy,
   configureOf,
@@ -130,10 +130,10 @@ fn lesser(a: usize, b: usize) -> usize
 fn room(number: u8, bus: usize, commands: usize, reports: usize) -> usize
     ensures { λ r. ⌜ r ≡ cond (eqb number 0) (roomOf bus commands reports) 0 ⌝ }
 {
-    if number != 0 {
-        return 0;
+    if number == 0 {
+        return lesser(bus, lesser(commands, reports));
     }
-    lesser(bus, lesser(commands, reports))
+    0
 }
 
 impl Machine {
@@ -264,6 +264,22 @@ impl Machine {
         self.answered(number, Kind::Write, address, halfword)
     }
 
+    // The machine with the parts that slots change.
+    fn with_parts(self, past: Past, counters: Counters, control: Control, queue: Queue) -> Machine
+        ensures { λ r. ⌜ r ≡ machineWith (self .configured) (self .config) past counters control queue (self .accepted) ⌝ }
+    {
+        let config = self.config;
+        Machine {
+            queue,
+            past,
+            config,
+            counters,
+            control,
+            configured: self.configured,
+            accepted: self.accepted,
+        }
+    }
+
     // One slot; `bus` is the halfword that the bus carries. The arrays are lent and changed in place; the machine is built once, at the end, for a refused
     // slot too: an early return would copy it.
     pub fn slot(self, bus: u16) -> Slot
@@ -322,17 +338,9 @@ impl Machine {
             places,
             count: turned.count,
         };
-        let machine = Machine {
-            queue: queue_after,
-            past: past_after,
-            config,
-            counters: counters_after,
-            control: control_after,
-            configured: self.configured,
-            accepted: self.accepted,
-        };
+        let after = self.with_parts(past_after, counters_after, control_after, queue_after);
         Slot {
-            machine,
+            machine: after,
             number,
             command,
             report,
@@ -399,15 +407,7 @@ impl Machine {
             places,
             count: ended.count,
         };
-        let machine = Machine {
-            queue: queue_after,
-            past: past_after,
-            config,
-            counters: counters_after,
-            control: control_after,
-            configured: self.configured,
-            accepted: self.accepted,
-        };
+        let machine = self.with_parts(past_after, counters_after, control_after, queue_after);
         Slots {
             machine,
             number,

@@ -31,8 +31,13 @@ turn-requires c κs =
       (sixteen s, four s, four-rows s),
     )
 
+with-parts-requires : tie.Need-with-parts-requires
+with-parts-requires c κs = search needs
+
 returns : tie.Need-returns
-returns c = slot-is _ _ (c .before .before .before .before .before .before .before .record-number .ensures _ _ _) (c .before .turn .ensures)
+returns c =
+    let at-turn = c .before .before in
+    rw (c .with-parts .ensures) (slot-is _ _ (at-turn .before .before .before .before .before .before .record-number .ensures _ _ _) (at-turn .turn .ensures))
 
 pub slot-spec : {M : Type 1} → statement M
-slot-spec = tie.close (tie.spec accepted-requires record-number-requires turn-requires returns)
+slot-spec = tie.close (tie.spec accepted-requires record-number-requires turn-requires with-parts-requires returns)

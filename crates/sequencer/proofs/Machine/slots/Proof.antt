@@ -35,6 +35,9 @@ run-requires c κs =
       ((sixteen s, four s, four-rows s), shows .1),
     )
 
+with-parts-requires : tie.Need-with-parts-requires
+with-parts-requires c κs = search needs
+
 same-length : tie.Need-same-length
 same-length c = search needs
 
@@ -43,9 +46,9 @@ same-length-2 c = search needs
 
 returns : tie.Need-returns
 returns c =
-    let at-run = c .before .before .before .before .before in
+    let at-run = c .before .before .before .before .before .before in
     let at-room = at-run .before .before .before .before .before .before .before .before in
-    slots-is _ _ _ _ (at-room .before .record-number .ensures _ _ _) (at-room .room .ensures) (at-run .run .ensures)
+    rw (c .with-parts .ensures) (slots-is _ _ _ _ (at-room .before .record-number .ensures _ _ _) (at-room .room .ensures) (at-run .run .ensures))
 
 pub slots-spec : {M : Type 1} → statement M
-slots-spec = tie.close (tie.spec accepted-requires record-number-requires room-requires run-requires same-length same-length-2 returns)
+slots-spec = tie.close (tie.spec accepted-requires record-number-requires room-requires run-requires with-parts-requires same-length same-length-2 returns)
