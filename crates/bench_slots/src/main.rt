@@ -40,7 +40,7 @@ fn mix_all(digest: u32, words: &[u64]) -> u32 {
         let word = words[i];
         digest = mix(
             digest,
-            (word % 4294967296) as u32 ^ (word / 4294967296) as u32,
+            (word % 4294967296) as u32 ^ (word / 4294967296 % 4294967296) as u32,
         );
         i += 1;
     }
@@ -102,7 +102,10 @@ fn called(before: Bench) -> Bench {
     let x = fill(&mut bus, asked.x);
     let machine = asked.machine;
     let r = machine.slots(&bus, &mut commands, &mut reports);
-    let answered = mix(mix(asked.digest, r.number as u32), r.count as u32);
+    let answered = mix(
+        mix(asked.digest, r.number as u32),
+        (r.count % 4294967296) as u32,
+    );
     let packed = mix_all(mix_all(answered, &commands), &reports);
     let after = r.machine;
     let digest = mix_reading(packed, after);
