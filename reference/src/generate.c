@@ -268,6 +268,8 @@ static void write_stray_halfwords(struct author *a, unsigned halfwords)
     uint16_t halfword[BUS_LINE];
     unsigned n;
 
+    if (a->calls_left == 0)
+        return;
     for (n = 0; n < halfwords; n++)
         halfword[n] = draw_halfword(a);
     if (halfwords <= ROW_ROOM - a->rows.halfwords) {
@@ -280,14 +282,16 @@ static void write_stray_halfwords(struct author *a, unsigned halfwords)
 /* As many as may wait, and then lines that would pass that. */
 static void write_halfwords_to_the_limit(struct author *a)
 {
+    unsigned room;
+
     while (a->rows.halfwords + BUS_LINE <= ROW_ROOM && a->calls_left > 0)
         write_stray_halfwords(a, BUS_LINE);
-    if (a->rows.halfwords < ROW_ROOM) {
-        unsigned room = ROW_ROOM - a->rows.halfwords;
-
-        write_stray_halfwords(a, room + 1);
+    if (a->calls_left == 0)
+        return;
+    room = ROW_ROOM - a->rows.halfwords; /* below BUS_LINE */
+    write_stray_halfwords(a, room + 1);
+    if (room > 0)
         write_stray_halfwords(a, room);
-    }
     write_stray_halfwords(a, 1);
 }
 
@@ -738,40 +742,47 @@ static unsigned run_ahead(struct author *a, unsigned slots)
     return n;
 }
 
-/* So many halfwords wait now. The first `from` did so before, the first `known` are in their places. */
-static void write_row_halfwords(struct author *a, unsigned from, unsigned known, unsigned to)
+static unsigned longer_row(unsigned length, unsigned more)
 {
-    for (; known < to; known++)
-        a->rows.bus[known] = draw_halfword(a);
-    a->rows.halfwords = to;
-    while (from < to) {
-        unsigned halfwords = once_in(a, 4) ? 1 + draw(a, BUS_LINE) : BUS_LINE;
-
-        if (halfwords > to - from)
-            halfwords = to - from;
-        write_bus_line(a, a->rows.bus + from, halfwords);
-        from += halfwords;
-    }
+    return length + more < ROW_ROOM ? length + more : ROW_ROOM;
 }
 
-static unsigned longer_row(unsigned slots, unsigned more)
-{
-    return slots + more < ROW_ROOM ? slots + more : ROW_ROOM;
-}
-
-static unsigned draw_longer_row(struct author *a, unsigned slots)
+static unsigned draw_places(struct author *a, unsigned length, bool longer)
 {
     uint32_t most = once_in(a, 8) ? ROW_ROOM : 20;
 
-    return longer_row(slots, 1 + draw(a, most));
+    return longer ? longer_row(length, 1 + draw(a, most)) : length;
 }
 
-/* The slots that may still be run in a row: halfwords, call and slots find room in the script. */
-static unsigned room_for_row(const struct author *a)
+/* One of the three rows is `length` long and the others longer, or all are equal. */
+static void draw_row_lengths(struct author *a, unsigned length)
 {
-    uint64_t room = a->calls_left < 2 * BUS_LINE ? 0 : (a->calls_left - 2 * BUS_LINE) / 2;
+    enum { HALFWORDS, COMMANDS, REPORTS, ALL };
+    struct rows *r = &a->rows;
+    unsigned shortest = draw(a, ALL + 1);
+    unsigned halfwords = length;
 
-    return room < ROW_ROOM ? (unsigned)room : ROW_ROOM;
+    if (shortest == HALFWORDS && r->halfwords > length)
+        shortest = COMMANDS; /* halfwords that wait cannot be taken back */
+    if (shortest == COMMANDS || shortest == REPORTS)
+        halfwords = longer_row(length, 1 + draw(a, BUS_LINE));
+    if (r->halfwords < halfwords)
+        r->halfwords = halfwords;
+    r->commands = draw_places(a, length, shortest == HALFWORDS || shortest == REPORTS);
+    r->reports = draw_places(a, length, shortest == HALFWORDS || shortest == COMMANDS);
+}
+
+/* The `bus` lines of a row: its halfwords from place `from` on. */
+static void write_row_halfwords(struct author *a, unsigned from)
+{
+    while (from < a->rows.halfwords) {
+        unsigned halfwords = once_in(a, 4) ? 1 + draw(a, BUS_LINE) : BUS_LINE;
+
+        if (halfwords > a->rows.halfwords - from)
+            halfwords = a->rows.halfwords - from;
+        write_bus_line(a, a->rows.bus + from, halfwords);
+        from += halfwords;
+    }
 }
 
 /* Calls that change nothing, between the `bus` lines and the `slots` line. */
@@ -783,32 +794,34 @@ static void write_asides_in_row(struct author *a)
         write_aside(a);
 }
 
+/* The slots of a row for which the script has room, with a line for each halfword. */
+static unsigned room_for_row(const struct author *a)
+{
+    uint64_t room = a->calls_left < 2 * BUS_LINE ? 0 : (a->calls_left - 2 * BUS_LINE) / 2;
+
+    return room < ROW_ROOM ? (unsigned)room : ROW_ROOM;
+}
+
 /*
- * A call for about `slots` slots, with one of the three rows the shortest, or all equal. Gives the slots
- * that it runs. The machine goes by the call itself: in a damaged build it may differ from single slots.
+ * A call for `slots` slots; fewer where the script or the halfwords that wait demand it. Gives the slots
+ * that it runs. The machine goes by the call itself: a damaged one may differ from single slots.
  */
 static unsigned write_row(struct author *a, unsigned slots)
 {
-    enum { HALFWORDS, COMMANDS, REPORTS, ROWS };
     struct rows *r = &a->rows;
     unsigned waiting = r->halfwords;
     unsigned room = room_for_row(a);
-    unsigned length = run_ahead(a, slots < room ? slots : room);
-    unsigned count = a->machine.blank ? 0 : length;
-    unsigned shortest = draw(a, ROWS + 1);
-    unsigned halfwords = length;
+    unsigned length, count, n;
 
     if (room == 0)
         return 0;
-    if (shortest == HALFWORDS && waiting > length)
-        shortest = COMMANDS;
-    if (shortest == COMMANDS || shortest == REPORTS)
-        halfwords = longer_row(length, 1 + draw(a, BUS_LINE));
-    r->commands = shortest == COMMANDS || shortest == ROWS ? length : draw_longer_row(a, length);
-    r->reports = shortest == REPORTS || shortest == ROWS ? length : draw_longer_row(a, length);
+    length = run_ahead(a, slots < room ? slots : room);
+    count = a->machine.blank ? 0 : length;
     a->calls_left -= 1 + count;
-    write_row_halfwords(a, waiting, waiting < length ? length : waiting,
-                        waiting < halfwords ? halfwords : waiting);
+    draw_row_lengths(a, length);
+    for (n = waiting < length ? length : waiting; n < r->halfwords; n++)
+        r->bus[n] = draw_halfword(a);
+    write_row_halfwords(a, waiting);
     write_asides_in_row(a);
     begin_counted_call(a);
     fputs("slots", stdout);
