@@ -614,8 +614,8 @@ def slots_form():
         # Slots 1 to 4, of 216 that are NOP; then none waits.
         (b"slots 5 4", "slots 0 4" + 4 * "\nslot 0 NOP -"), (b"slots 5 5", "slots 0 0"), (b"", None), (b"# bus 1", None),
         # Numbers, and lines of 255 bytes and of more.
-        (b"bus 0", "bus 1"), (b"bus 65535 0xFFFF 0xffff 0x0 00000000065535", "bus 6"), (digits(126), "bus 132"), (digits(126) + b"7", "error"),
-        (digits(127), "error"), (digits(300), "error"), (b"bus " + b"0" * 251, "bus 133"), (b"bus " + b"0" * 252, "error"),
+        (digits(126), "bus 126"), (digits(126) + b"7", "error"), (digits(127), "error"), (digits(300), "error"), (b"bus 0", "bus 127"),
+        (b"bus 65535 0xFFFF 0xffff 0x0 00000000065535", "bus 132"), (b"bus " + b"0" * 251, "bus 133"), (b"bus " + b"0" * 252, "error"),
         (b"slots 0x00 00", "slots 0 0"),
         # A reading call, a request, a single slot (the 5th) and a configuration leave waiting what waits.
         (b"bus 7 8", "bus 2"), (b"backlog", "backlog 0 0"), (b"read 1", "read 4 0"), (b"read 0", "read 0 1"), (b"slot 9", "slot 0 NOP -"),
