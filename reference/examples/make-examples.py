@@ -25,12 +25,22 @@ def store(name, script, expected):
 
 
 def dialogue(name, pairs):
-    """A script given as pairs of a line and its answer."""
+    """A script given as pairs of a line and its answer, which may have several lines."""
     store(name, [line for line, _ in pairs], [answer for _, answer in pairs if answer is not None])
 
 
+def bus_lines(halfwords, waiting=0):
+    """`bus` lines of 40 halfwords, 243 bytes at most, behind those that wait."""
+    pairs = []
+    for at in range(0, len(halfwords), 40):
+        some = halfwords[at:at + 40]
+        pairs.append(("bus " + " ".join("%d" % halfword for halfword in some), "bus %d" % (waiting + at + len(some))))
+    return pairs
+
+
 class Run:
-    """A run given by the slots in which something happens; every other slot is NOP without a report."""
+    """A run given by the slots in which something happens; every other slot is NOP without a report. Each slot is a call of its own,
+    unless it stands in a row."""
 
     def __init__(self, words):
         self.words = words
@@ -38,6 +48,7 @@ class Run:
         self.command = {}   # slot: command
         self.report = {}    # slot: report
         self.bus = {}       # slot: halfword on the bus
+        self.rows = {}      # first slot: slots of the row; the halfwords, commands and reports that it has room for beyond them; halfwords given before
         self.accepted = 0
 
     def call(self, slot, line, answer):
@@ -69,14 +80,44 @@ class Run:
         self.at(deac, "DEAC")
         self.at(refr, "REFR")
 
+    def row(self, first, slots, halfwords=0, commands=0, reports=0, given=0):
+        """One call runs `slots` slots from `first` on. Each of its rows is longer by as much as is said. The first `given` halfwords are
+        given elsewhere, by `give`."""
+        self.rows[first] = slots, halfwords, commands, reports, given
+
+    def give(self, slot, first, given):
+        """Before `slot`: the first halfwords of the row that begins later, in slot `first`."""
+        self.before.setdefault(slot, []).extend(bus_lines([self.carried(first + n) for n in range(given)]))
+
+    def carried(self, slot):
+        """Where the bus carries no data it carries something else in every slot."""
+        return self.bus.get(slot, slot * 7919 % 65536)
+
+    def answer(self, slot):
+        return "slot 0 %s %s" % (self.command.get(slot, "NOP"), self.report.get(slot, "-"))
+
+    def row_pairs(self, first):
+        slots, halfwords, commands, reports, given = self.rows[first]
+        assert min(halfwords, commands, reports) == 0, "the shortest row is as long as its slots"
+        run = range(first, first + slots)
+        assert not any(slot in self.before for slot in run[1:]), "no call within a row"
+        bus = [self.carried(slot) for slot in run] + [65535] * halfwords
+        answers = ["slots 0 %d" % slots] + [self.answer(slot) for slot in run]
+        return bus_lines(bus[given:], given) + [("slots %d %d" % (slots + commands, slots + reports), "\n".join(answers))]
+
     def store(self, name, last):
         pairs = [("config " + self.words, "config 0")]
-        for slot in range(1, last + 1):
+        slot = 1
+        while slot <= last:
             pairs += self.before.get(slot, [])
-            # Where the bus carries no data it carries something else in every slot.
-            bus = self.bus.get(slot, slot * 7919 % 65536)
-            pairs.append(("slot %d" % bus, "slot 0 %s %s" % (self.command.get(slot, "NOP"), self.report.get(slot, "-"))))
-        pairs += self.before.get(last + 1, [])
+            if slot in self.rows:
+                pairs += self.row_pairs(slot)
+                slot += self.rows[slot][0]
+            else:
+                pairs.append(("slot %d" % self.carried(slot), self.answer(slot)))
+                slot += 1
+        assert slot == last + 1
+        pairs += self.before.get(slot, [])
         dialogue(name, pairs)
 
 
@@ -131,22 +172,24 @@ def e5():
     run.store("E5", 240)
 
 
-def e6():
+def e6_begin():
     run = e5_begin()
+    for deac in (335, 337, 339, 341, 362):
+        run.refresh(deac, deac + 1)
+    return run
+
+
+def e6():
+    run = e6_begin()
     run.backlog_after(227, 0)
     run.backlog_after(253, 0)
     run.backlog_after(254, 1)
     run.backlog_after(334, 3)
     run.backlog_after(335, 4)
-    run.refresh(335, 336)
     run.backlog_after(336, 3)
-    run.refresh(337, 338)
-    run.refresh(339, 340)
-    run.refresh(341, 342)
     run.backlog_after(341, 1)
     run.backlog_after(342, 0)
     run.backlog_after(361, 0)
-    run.refresh(362, 363)
     run.backlog_after(362, 1)
     run.backlog_after(363, 0)
     run.store("E6", 370)
@@ -242,7 +285,7 @@ def endless_reads(run, first, last):
         run.data(slot + 2, number, first_contents(0, 0, 0))
 
 
-def must_run():
+def must_run_begin():
     """Rule 1. Expiries of E1's machine: 254, 281, ... each 27, the 12th in 551. Choices come every 4
     slots, 549 and 553. At 553 the backlog is 12: five refreshes bring it to 7, and at 563 the run ends."""
     run = e1_machine()
@@ -251,11 +294,16 @@ def must_run():
     run.backlog_after(551, 12)
     for deac in (553, 555, 557, 559, 561):
         run.refresh(deac, deac + 1)
-    run.backlog_after(562, 7)
     run.read(550, "0")                  # waits through the Must run
     run.at(563, "ACT 0 0")
     run.at(564, "READ 0 0")
     run.data(566, 82, first_contents(0, 0, 0))
+    return run
+
+
+def must_run():
+    run = must_run_begin()
+    run.backlog_after(562, 7)
     run.store("must-run", 567)
 
 
@@ -509,6 +557,97 @@ def form():
     store("form", [b"\n".join(line for line, _ in lines)], expected)
 
 
+def slots():
+    """Document 02, (i). E5 and E6 in rows, each of the three the shortest in turn; requests, single slots and reading calls between."""
+    run = e6_begin()
+    run.row(1, 99, commands=1, reports=2)
+    run.give(100, 101, 5)               # these wait through a single slot and a reading call
+    run.row(101, 115, halfwords=3, reports=1, given=5)
+    run.backlog_after(100, 0)
+    # No halfword waits; no places; and then none waits any more.
+    for line, answer in (("slots 5 5", "slots 0 0"), ("bus 7", "bus 1"), ("slots 0 4096", "slots 0 0"), ("slots 5 5", "slots 0 0"),
+                         ("bus 7 8", "bus 2"), ("slots 4096 0", "slots 0 0")):
+        run.call(216, line, answer)
+    run.row(216, 1)
+    run.row(217, 14, halfwords=2, commands=5)   # from DEAC to the READ in 230
+    run.row(231, 2, commands=1, reports=1)      # the data of that READ
+    run.backlog_after(233, 0)
+    run.row(234, 101, halfwords=1, commands=7)
+    run.backlog_after(334, 3)
+    run.row(335, 1, halfwords=9, reports=9)
+    run.backlog_after(335, 4)
+    run.row(336, 1, commands=2, reports=1)
+    run.backlog_after(336, 3)
+    run.row(337, 26, commands=4096 - 26, reports=4096 - 26)
+    run.backlog_after(362, 1)
+    run.backlog_after(363, 0)
+    run.store("slots", 370)
+
+
+def slots_one_row():
+    """E5 and E6 by one call: start, write, read with its data, expiries, refreshes."""
+    run = e6_begin()
+    run.before[1] += run.before.pop(100)        # the read is handed in first, too
+    run.row(1, 370, commands=30, reports=20)
+    run.store("slots-one-row", 370)
+
+
+def slots_must_run():
+    """The Must run of that example within a row, and the read that waits for its end."""
+    run = must_run_begin()
+    run.row(552, 16, halfwords=1, reports=1)
+    run.backlog_after(567, 7)
+    run.store("slots-must-run", 567)
+
+
+def slots_form():
+    """`bus` and `slots` lines of every shape. Errors add no halfword and take none."""
+    def digits(count):
+        return b"bus" + b" 7" * count
+
+    lines = [
+        # The blank machine. What waits is used up by the call, refused or not, and by nothing else.
+        (b"slots 0 0", "slots 8 0"), (b"slots 1 1", "slots 8 0"), (b"bus 1", "bus 1"), (b"bus 2 3", "bus 3"), (b"slots 3 3", "slots 8 0"),
+        (b"bus 1", "bus 1"), (b"slots 0 0", "slots 8 0"), (b"bus 1 2", "bus 2"), (b"slot 0", "slot 8 NOP -"), (b"read 0", "read 8 0"),
+        (b"config 0x4400 0 26 0", "config 3"), (b"bus 3", "bus 3"), (b"backlog", "backlog 8 0"), (b"cell 0x4400 0 2", "cell 0 0 0 1"),
+        (b"config 0x4400 0 27 0", "config 0"), (b"bus 4", "bus 4"),
+        # Slots 1 to 4, of 216 that are NOP; then none waits.
+        (b"slots 5 4", "slots 0 4" + 4 * "\nslot 0 NOP -"), (b"slots 5 5", "slots 0 0"), (b"", None), (b"# bus 1", None),
+        # Numbers, and lines of 255 bytes and of more.
+        (digits(126), "bus 126"), (digits(126) + b"7", "error"), (digits(127), "error"), (digits(300), "error"), (b"bus 0", "bus 127"),
+        (b"bus 65535 0xFFFF 0xffff 0x0 00000000065535", "bus 132"), (b"bus " + b"0" * 251, "bus 133"), (b"bus " + b"0" * 252, "error"),
+        (b"slots 0x00 00", "slots 0 0"),
+        # A reading call, a request, a single slot (the 5th) and a configuration leave waiting what waits.
+        (b"bus 7 8", "bus 2"), (b"backlog", "backlog 0 0"), (b"read 1", "read 4 0"), (b"read 0", "read 0 1"), (b"slot 9", "slot 0 NOP -"),
+        (b"config 0x4400 0 27 0", "config 0"), (b"bus 9", "bus 3"),
+    ]
+    errors = [
+        b"bus", b"bus ", b"bus  1", b"bus 1 ", b"bus 1  2", b" bus 1", b"bus\t1", b"bus 1\t2", b"bus 1\r", b"bus 1\x00", b"Bus 1", b"bus1",
+        b"buss 1", b"bu 1", b"bus 65536", b"bus 0x10000", b"bus 65536 1", b"bus 1 65536", b"bus 1 65536 1", b"bus 1 2 x", b"bus x 1 2",
+        b"bus 1 0x", b"bus 1 0X1", b"bus 1 -1", b"bus 1 +1", b"bus 1,2", b"bus 1 # 2", b"bus 18446744073709551616", b"bus 1 18446744073709551616",
+        b"slots", b"slots ", b"slots 1", b"slots 1 ", b"slots 1 1 1", b"slots 1 1 ", b"slots  1 1", b"slots 1  1", b" slots 1 1", b"Slots 1 1",
+        b"slots\t1 1", b"slots 1 1\r", b"slots 4097 1", b"slots 1 4097", b"slots 4097 4097", b"slots 0x1001 1", b"slots 1 65536",
+        b"slots 4294967296 1", b"slots 1 18446744073709551616", b"slots -1 1", b"slots 1 x", b"slots 0x 1", b"slot 1 1", b"slotss 1 1",
+    ]
+    lines += [(line, "error") for line in errors]
+    # Three still wait. 4,096 may: 3 + 32 x 126 = 4,035, and 61 more.
+    lines += [(digits(126), "bus %d" % (3 + 126 * n)) for n in range(1, 32 + 1)]
+    lines += [(digits(62), "error"), (digits(126), "error"), (digits(60), "bus 4095"), (digits(2), "error"), (digits(1), "bus 4096"),
+              (digits(1), "error"), (b"bus 65536", "error"), (b"slots 4097 4096", "error"), (b"slots 4096 4097", "error")]
+    # All of them, on E1's machine without requests: the interval ends in 254 and each 27 slots later, all banks are closed.
+    run = e1_machine()
+    for deac in range(254, 4096, 27):
+        run.refresh(deac, deac + 1)
+    lines += [(b"slots 4096 0x1000", "\n".join(["slots 0 4096"] + [run.answer(slot) for slot in range(1, 4096 + 1)])),
+              (b"slots 4096 4096", "slots 0 0"), (b"bus 1", "bus 1"), (b"backlog", "backlog 0 0"),
+              # 4,097 is the slot after the pair in 4,088 and 4,089; the last line has no line feed.
+              (b"slots 1 2", "slots 0 1\nslot 0 NOP -")]
+    assert 254 + 27 * 142 == 4088
+    expected = [answer + " %d" % number if answer == "error" else answer
+                for number, (_, answer) in enumerate(lines, 1) if answer is not None]
+    store("slots-form", [b"\n".join(line for line, _ in lines)], expected)
+
+
 def last_number():
     """For a build whose last request number is 8: 6 comes before 7, and 7 stays."""
     run = e1_machine()
@@ -528,5 +667,6 @@ def last_number():
 if __name__ == "__main__":
     e1_to_e4()
     for example in (e5, e6, e7, e8, e9, e10, e11, e12, must_run, must_only_at_a_choice, need_with_blocked_read,
-                    write_before_release, oldest_read_first, tight_distances, unlike_distances, geometries, numbers, form, last_number):
+                    write_before_release, oldest_read_first, tight_distances, unlike_distances, geometries, numbers, form, slots, slots_one_row, slots_must_run,
+                    slots_form, last_number):
         example()

@@ -251,3 +251,80 @@ void check_backlog(const struct check *k, struct backlog_answer a)
         end_with(k, CLAIM_FAILED, "the reading call gives %u, the backlog is %" PRIu64, a.backlog,
                  backlog);
 }
+
+/* ---- Many slots ---- */
+
+/* No slot gives these. */
+static const struct command marked_command = {NOP, 255, 65535, 65535, 65535};
+static const struct report marked_report = {REPORT_NOTHING, UINT32_MAX, 65535};
+
+static bool same_command(struct command x, struct command y)
+{
+    return x.kind == y.kind && x.bank == y.bank && x.row == y.row && x.column == y.column &&
+           x.word == y.word;
+}
+
+static bool same_report(struct report x, struct report y)
+{
+    return x.kind == y.kind && x.number == y.number && x.halfword == y.halfword;
+}
+
+void check_mark_rows(struct rows *r)
+{
+    unsigned n;
+
+    for (n = 0; n < ROW_ROOM; n++) {
+        r->command[n] = marked_command;
+        r->report[n] = marked_report;
+    }
+}
+
+static void check_count(const struct check *k, const struct rows *r, struct slots_answer a)
+{
+    enum number answer = k->watching ? ACCEPTED : BLANK;
+    unsigned count = r->halfwords;
+
+    if (count > r->commands)
+        count = r->commands;
+    if (count > r->reports)
+        count = r->reports;
+    if (!k->watching)
+        count = 0;
+    if (a.answer != answer)
+        end_with(k, CLAIM_FAILED, "a call for many slots is answered %d, not %d", a.answer, answer);
+    if (a.count != count)
+        end_with(k, CLAIM_FAILED, "a call for many slots runs %u, not %u", a.count, count);
+}
+
+static void check_places_beyond(const struct check *k, const struct rows *r, unsigned count)
+{
+    unsigned n;
+
+    for (n = count; n < ROW_ROOM; n++)
+        if (!same_command(r->command[n], marked_command) || !same_report(r->report[n], marked_report))
+            end_with(k, CLAIM_FAILED, "place %u is written, beyond the count %u", n + 1, count);
+}
+
+static void check_single_slots(const struct check *k, const struct machine *before,
+                               const struct rows *r, unsigned count)
+{
+    struct machine single = *before;
+    unsigned n;
+
+    for (n = 0; n < count; n++) {
+        struct slot_answer one = machine_slot(&single, r->bus[n]);
+
+        if (!same_command(r->command[n], one.command))
+            end_with(k, CLAIM_FAILED, "the command in place %u is not the single slot's", n + 1);
+        if (!same_report(r->report[n], one.report))
+            end_with(k, CLAIM_FAILED, "the report in place %u is not the single slot's", n + 1);
+    }
+}
+
+void check_slots(const struct check *k, const struct machine *before, const struct rows *r,
+                 struct slots_answer a)
+{
+    check_count(k, r, a);
+    check_places_beyond(k, r, a.count);
+    check_single_slots(k, before, r, a.count);
+}

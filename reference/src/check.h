@@ -1,5 +1,6 @@
 /*
  * Document 01, "The third condition in full": the flat memory, and every claim about the list of calls.
+ * A call for many slots stands for the slots that it runs.
  * The first claim that fails is named on standard error and ends the program with status 1. A script
  * whose bus halfword is not the SDRAM's ends it with status 2.
  */
@@ -44,5 +45,14 @@ void check_request(struct check *k, struct request asked, struct request_answer 
 void check_bus(const struct check *k, uint16_t bus); /* before the slot */
 void check_slot(struct check *k, const struct slot_answer *a);
 void check_backlog(const struct check *k, struct backlog_answer a);
+
+/*
+ * Document 02, (i). Before the call every place of the rows for commands and reports is marked. After it:
+ * the answer and the count, the places beyond the count, and single slots on the machine as it was
+ * before. What the slots did is for check_bus and check_slot, one slot after the other.
+ */
+void check_mark_rows(struct rows *r);
+void check_slots(const struct check *k, const struct machine *before, const struct rows *r,
+                 struct slots_answer a);
 
 #endif

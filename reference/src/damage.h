@@ -109,7 +109,21 @@ enum damage {
     READ_FREE_EARLY,
     READ_LEAVES_LATE,
     WRITE_REPORTED_AGAIN,
-    WRITE_REPORTED_AS_READ
+    WRITE_REPORTED_AS_READ,
+
+    /* Many slots in one call. */
+    LONGEST_ROW_COUNTS,
+    HALFWORDS_IGNORED, /* the shorter of the other two rows decides */
+    COMMAND_PLACES_IGNORED,
+    REPORT_PLACES_IGNORED,
+    COUNT_OF_HALFWORDS, /* given back, whatever was run */
+    ONE_SLOT_AT_LEAST,
+    REFUSED_RUNS_SLOTS,
+    BUS_OF_SLOT_BEFORE, /* from the second slot of the row on */
+    REPORTS_ONE_LATE,   /* within the row */
+    FIRST_SLOT_TWICE,
+    LAST_SLOT_LEFT_OUT, /* but counted, as NOP */
+    PLACE_BEYOND_WRITTEN
 };
 
 #ifndef DAMAGE

@@ -4,7 +4,10 @@
 
 #include <stdint.h>
 
-/* Prints a script of `calls` lines that are answered, comments and empty lines not counted. */
+/*
+ * Prints a script that is answered with `calls` lines: one for each call, and one more for each slot that
+ * a call for many slots runs.
+ */
 void generate(uint64_t seed, uint64_t calls);
 
 #endif

@@ -380,7 +380,7 @@ static struct slot_answer service_slot(struct machine *m, uint16_t bus)
     return a;
 }
 
-/* ---- The slot and the reading call ---- */
+/* ---- The slot ---- */
 
 struct slot_answer machine_slot(struct machine *m, uint16_t bus)
 {
@@ -398,6 +398,74 @@ struct slot_answer machine_slot(struct machine *m, uint16_t bus)
         count_interval(m);
     return a;
 }
+
+/* ---- Document 02, (i): many slots ---- */
+
+static unsigned smaller(unsigned x, unsigned y)
+{
+    return x < y ? x : y;
+}
+
+static unsigned larger(unsigned x, unsigned y)
+{
+    return x < y ? y : x;
+}
+
+/* As many slots as the shortest row has room for. */
+static unsigned slots_to_run(const struct rows *r)
+{
+    unsigned count = smaller(r->halfwords, smaller(r->commands, r->reports));
+
+    if (DAMAGED(LONGEST_ROW_COUNTS))
+        return larger(r->halfwords, larger(r->commands, r->reports));
+    if (DAMAGED(HALFWORDS_IGNORED))
+        return smaller(r->commands, r->reports);
+    if (DAMAGED(COMMAND_PLACES_IGNORED))
+        return smaller(r->halfwords, r->reports);
+    if (DAMAGED(REPORT_PLACES_IGNORED))
+        return smaller(r->halfwords, r->commands);
+    if (DAMAGED(ONE_SLOT_AT_LEAST))
+        return larger(count, 1);
+    return count;
+}
+
+/* Damaged builds only: the reports of a row move on by one place. */
+static void delay_reports(struct rows *r, unsigned count)
+{
+    struct report nothing = {REPORT_NOTHING, 0, 0};
+
+    memmove(&r->report[1], &r->report[0], (count - 1) * sizeof r->report[0]);
+    r->report[0] = nothing;
+}
+
+struct slots_answer machine_slots(struct machine *m, struct rows *r)
+{
+    struct slots_answer a = {m->blank ? BLANK : ACCEPTED, 0};
+    unsigned n;
+
+    if (a.answer != ACCEPTED && !DAMAGED(REFUSED_RUNS_SLOTS))
+        return a;
+    a.count = slots_to_run(r);
+    for (n = 0; n < a.count; n++) {
+        bool before = DAMAGED(BUS_OF_SLOT_BEFORE) && n > 0;
+        struct slot_answer one = {ACCEPTED, nop, {REPORT_NOTHING, 0, 0}};
+
+        if (DAMAGED(FIRST_SLOT_TWICE) && n == 0)
+            machine_slot(m, r->bus[n]);
+        if (!DAMAGED(LAST_SLOT_LEFT_OUT) || n + 1 < a.count)
+            one = machine_slot(m, r->bus[before ? n - 1 : n]);
+        r->command[n] = one.command;
+        r->report[n] = one.report;
+    }
+    if (DAMAGED(REPORTS_ONE_LATE) && a.count > 0)
+        delay_reports(r, a.count);
+    if (DAMAGED(PLACE_BEYOND_WRITTEN) && a.count < ROW_ROOM)
+        r->command[a.count] = nop;
+    a.count = SLIP(COUNT_OF_HALFWORDS, a.count, r->halfwords);
+    return a;
+}
+
+/* ---- The reading call ---- */
 
 struct backlog_answer machine_backlog(const struct machine *m)
 {

@@ -1,4 +1,4 @@
-/* Document 01, "Numbers given back", "Start", "A service slot": the machine. */
+/* Document 01, "Numbers given back", "Start", "A service slot", and document 02, (i): the machine. */
 #ifndef MACHINE_H
 #define MACHINE_H
 
@@ -68,11 +68,30 @@ struct backlog_answer {
     unsigned backlog;
 };
 
+/*
+ * Document 02, (i): the three rows lent to the call for many slots. Of each, so many places are lent;
+ * 4,096 is REPLAY.md's limit.
+ */
+enum { ROW_ROOM = 4096 };
+
+struct rows {
+    unsigned halfwords, commands, reports; /* places lent */
+    uint16_t bus[ROW_ROOM];
+    struct command command[ROW_ROOM];
+    struct report report[ROW_ROOM];
+};
+
+struct slots_answer {
+    enum number answer;
+    unsigned count; /* slots run */
+};
+
 void machine_blank(struct machine *m);
 enum number machine_configure(struct machine *m, struct words w);
 struct request_answer machine_read(struct machine *m, uint32_t address);
 struct request_answer machine_write(struct machine *m, uint32_t address, uint16_t halfword);
 struct slot_answer machine_slot(struct machine *m, uint16_t bus);
+struct slots_answer machine_slots(struct machine *m, struct rows *r);
 struct backlog_answer machine_backlog(const struct machine *m);
 
 #endif

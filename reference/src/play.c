@@ -10,6 +10,7 @@
 struct player {
     struct script script;
     struct machine machine;
+    struct rows rows; /* its halfwords are those that wait */
     bool checking;
     struct check check;
 };
@@ -104,6 +105,47 @@ static void play_slot(struct player *p, uint16_t bus)
     check_slot(&p->check, &a);
 }
 
+static void play_error(const struct player *p)
+{
+    printf("error %" PRIu64 "\n", p->script.line);
+}
+
+static void play_bus(struct player *p, const struct call *call)
+{
+    unsigned n;
+
+    if (call->arguments > ROW_ROOM - p->rows.halfwords) {
+        play_error(p);
+        return;
+    }
+    for (n = 0; n < call->arguments; n++)
+        p->rows.bus[p->rows.halfwords++] = (uint16_t)call->argument[n];
+    printf("bus %u\n", p->rows.halfwords);
+}
+
+static void play_slots(struct player *p, const uint32_t *argument)
+{
+    struct machine before = p->machine;
+    struct slots_answer a;
+    unsigned n;
+
+    p->rows.commands = argument[0];
+    p->rows.reports = argument[1];
+    check_mark_rows(&p->rows);
+    a = machine_slots(&p->machine, &p->rows);
+    printf("slots %d %u\n", a.answer, a.count);
+    if (p->checking)
+        check_slots(&p->check, &before, &p->rows, a);
+    for (n = 0; n < a.count; n++) {
+        struct slot_answer one = {a.answer, p->rows.command[n], p->rows.report[n]};
+
+        check_bus(&p->check, p->rows.bus[n]);
+        print_slot(&one);
+        check_slot(&p->check, &one);
+    }
+    p->rows.halfwords = 0;
+}
+
 static void play_backlog(struct player *p)
 {
     struct backlog_answer a = machine_backlog(&p->machine);
@@ -144,6 +186,12 @@ static void play_call(struct player *p, const struct call *call)
     case CALL_SLOT:
         play_slot(p, (uint16_t)call->argument[0]);
         break;
+    case CALL_BUS:
+        play_bus(p, call);
+        break;
+    case CALL_SLOTS:
+        play_slots(p, call->argument);
+        break;
     case CALL_BACKLOG:
         play_backlog(p);
         break;
@@ -154,7 +202,7 @@ static void play_call(struct player *p, const struct call *call)
         play_address(call->argument);
         break;
     case NO_CALL:
-        printf("error %" PRIu64 "\n", p->script.line);
+        play_error(p);
         break;
     }
 }

@@ -103,21 +103,25 @@ static bool read_number(struct word word, uint32_t largest, uint32_t *number)
 #define WORD UINT32_C(0xFFFFFFFF)
 #define HALFWORD UINT32_C(0xFFFF)
 #define BANK UINT32_C(0xFF)
+#define PLACES UINT32_C(4096)
 
 struct form {
     const char *name;
     unsigned arguments;
-    uint32_t largest[MOST_ARGUMENTS];
+    uint32_t largest[5];
+    bool further; /* more of the last argument may follow */
 };
 
 static const struct form forms[NO_CALL] = {
-    [CALL_CONFIG] = {"config", 4, {WORD, WORD, WORD, WORD, 0}},
-    [CALL_READ] = {"read", 1, {WORD, 0, 0, 0, 0}},
-    [CALL_WRITE] = {"write", 2, {WORD, HALFWORD, 0, 0, 0}},
-    [CALL_SLOT] = {"slot", 1, {HALFWORD, 0, 0, 0, 0}},
-    [CALL_BACKLOG] = {"backlog", 0, {0, 0, 0, 0, 0}},
-    [CALL_CELL] = {"cell", 3, {WORD, WORD, WORD, 0, 0}},
-    [CALL_ADDRESS] = {"address", 5, {WORD, WORD, BANK, HALFWORD, HALFWORD}},
+    [CALL_CONFIG] = {"config", 4, {WORD, WORD, WORD, WORD, 0}, false},
+    [CALL_READ] = {"read", 1, {WORD, 0, 0, 0, 0}, false},
+    [CALL_WRITE] = {"write", 2, {WORD, HALFWORD, 0, 0, 0}, false},
+    [CALL_SLOT] = {"slot", 1, {HALFWORD, 0, 0, 0, 0}, false},
+    [CALL_BUS] = {"bus", 1, {HALFWORD, 0, 0, 0, 0}, true},
+    [CALL_SLOTS] = {"slots", 2, {PLACES, PLACES, 0, 0, 0}, false},
+    [CALL_BACKLOG] = {"backlog", 0, {0, 0, 0, 0, 0}, false},
+    [CALL_CELL] = {"cell", 3, {WORD, WORD, WORD, 0, 0}, false},
+    [CALL_ADDRESS] = {"address", 5, {WORD, WORD, BANK, HALFWORD, HALFWORD}, false},
 };
 
 static enum call_kind kind_named(struct word name)
@@ -130,28 +134,38 @@ static enum call_kind kind_named(struct word name)
     return kind;
 }
 
-static struct call read_call(const struct script *s)
+/* The argument that is next in the call. A line has no room for more than MOST_ARGUMENTS. */
+static bool read_argument(struct word word, struct call *call)
 {
-    struct call none = {NO_CALL, {0, 0, 0, 0, 0}};
-    struct call call = none;
+    const struct form *form = &forms[call->kind];
+    unsigned n = call->arguments;
+
+    if (n >= form->arguments) {
+        if (!form->further)
+            return false;
+        n = form->arguments - 1;
+    }
+    return read_number(word, form->largest[n], &call->argument[call->arguments++]);
+}
+
+/* False where the line is no call; *call is then of no use. */
+static bool read_call(const struct script *s, struct call *call)
+{
     struct word word;
     size_t at = 0;
-    unsigned n;
 
+    memset(call, 0, sizeof *call);
     if (s->length > LONGEST_LINE || !next_word(s, &at, &word))
-        return none;
-    call.kind = kind_named(word);
-    if (call.kind == NO_CALL)
-        return none;
-    for (n = 0; n < forms[call.kind].arguments; n++) {
-        if (at == s->length)
-            return none;
+        return false;
+    call->kind = kind_named(word);
+    if (call->kind == NO_CALL)
+        return false;
+    while (at < s->length) {
         at++; /* the space */
-        if (!next_word(s, &at, &word) ||
-            !read_number(word, forms[call.kind].largest[n], &call.argument[n]))
-            return none;
+        if (!next_word(s, &at, &word) || !read_argument(word, call))
+            return false;
     }
-    return at == s->length ? call : none;
+    return call->arguments >= forms[call->kind].arguments;
 }
 
 bool script_next(struct script *s, struct call *call)
@@ -160,6 +174,7 @@ bool script_next(struct script *s, struct call *call)
         if (!next_line(s))
             return false;
     } while (passed_over(s));
-    *call = read_call(s);
+    if (!read_call(s, call))
+        call->kind = NO_CALL;
     return true;
 }

@@ -6,13 +6,16 @@
 #include <stdint.h>
 #include <stdio.h>
 
-enum { LONGEST_LINE = 255, MOST_ARGUMENTS = 5 };
+/* The line with most arguments is `bus` with 126 halfwords of one digit. */
+enum { LONGEST_LINE = 255, MOST_ARGUMENTS = 126 };
 
 enum call_kind {
     CALL_CONFIG,
     CALL_READ,
     CALL_WRITE,
     CALL_SLOT,
+    CALL_BUS,
+    CALL_SLOTS,
     CALL_BACKLOG,
     CALL_CELL,
     CALL_ADDRESS,
@@ -21,6 +24,7 @@ enum call_kind {
 
 struct call {
     enum call_kind kind;
+    unsigned arguments;
     uint32_t argument[MOST_ARGUMENTS];
 };
 
