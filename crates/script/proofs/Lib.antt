@@ -1,2 +1,3 @@
--- Worked examples.
+-- Laws for this crate's proofs, and worked examples.
+pub mod Laws
 pub mod Examples

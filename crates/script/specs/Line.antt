@@ -1,6 +1,6 @@
 -- A line of a script, byte by byte, and the call that it is (REPLAY.md, "Script").
 use Prim.Native.Nat.{ℕ, _+_, _-_, _*_}
-use mathlib.Core.Bool.{true, false, cond}
+use mathlib.Core.Bool.{Bool, true, false, cond}
 use mathlib.Core.List.{List, [], _∷_}
 use lib.Dec.{ltb, leb, eqb}
 use lib.ListN.{getD, set, replicate}
@@ -20,10 +20,12 @@ use Rattle.script.specs.declared.Call.the-variants.{
   Backlog,
   Cell,
   Address,
+  Bus,
+  Slots,
 }
 
 unfoldable pub noWords : Words
-noWords = record { wrong = false; name = 0; at = 0; number = Empty; given = replicate 5 0 }
+noWords = record { wrong = false; name = 0; at = 0; number = Empty; given = replicate 126 0 }
 
 -- the line is no call
 unfoldable pub ruinedOf : Words → Words
@@ -48,11 +50,11 @@ figureOf w b =
       given = w .given;
     }
 
--- the word under way was a number of this value: the fifth number at most
+-- the word under way was a number of this value: the 126th at most, for a line has at most 255 bytes
 unfoldable pub storedOf : Words → ℕ → Words
 storedOf w v =
     cond (ltb (w .at) 1) (ruinedOf w)
-    (cond (ltb 5 (w .at)) (ruinedOf w)
+    (cond (ltb 126 (w .at)) (ruinedOf w)
     (record {
       wrong = w .wrong;
       name = w .name;
@@ -106,6 +108,21 @@ unfoldable pub addressCall : Words → Call
 addressCall w =
     cond (eqb (w .at) 6) (placeCall (nth w 0) (nth w 1) (nth w 2) (nth w 3) (nth w 4)) Wrong
 
+-- are all of them halfwords?
+unfoldable pub halfwordsIn : List ℕ → Bool
+halfwordsIn [] = true
+halfwordsIn (n ∷ ns) = cond (ltb 65535 n) false (halfwordsIn ns)
+
+-- one halfword at least
+unfoldable pub busCall : Words → Call
+busCall w = cond (ltb (w .at) 2) Wrong (cond (halfwordsIn (w .given)) (Bus (w .at - 1)) Wrong)
+
+-- COMMANDS REPORTS, 4,096 at most each
+unfoldable pub slotsCall : Words → Call
+slotsCall w =
+    cond (ltb 4096 (nth w 0)) Wrong
+    (cond (ltb 4096 (nth w 1)) Wrong (cond (eqb (w .at) 3) (Slots (nth w 0) (nth w 1)) Wrong))
+
 -- the call that the words make, the last one ended
 unfoldable pub callOf : Words → Call
 callOf w =
@@ -116,7 +133,9 @@ callOf w =
     (cond (eqb (w .name) (letters "slot")) (slotCall w)
     (cond (eqb (w .name) (letters "backlog")) (backlogCall w)
     (cond (eqb (w .name) (letters "cell")) (cellCall w)
-    (cond (eqb (w .name) (letters "address")) (addressCall w) Wrong)))))))
+    (cond (eqb (w .name) (letters "address")) (addressCall w)
+    (cond (eqb (w .name) (letters "bus")) (busCall w)
+    (cond (eqb (w .name) (letters "slots")) (slotsCall w) Wrong)))))))))
 
 unfoldable pub noLine : Line
 noLine = record { size = 0; comment = false; words = noWords }
@@ -133,6 +152,10 @@ unfoldable pub lineCall : Line → Call
 lineCall l =
     cond (eqb (l .size) 0) Nothing
     (cond (l .comment) Nothing (cond (ltb 255 (l .size)) Wrong (callOf (nextOf (l .words)))))
+
+-- the numbers of a line, where it ends here, and 0 in each place behind them
+unfoldable pub givenOf : Line → List ℕ
+givenOf l = nextOf (l .words) .given
 
 -- a whole line, read from its first byte on
 unfoldable pub readFrom : Line → List ℕ → Line

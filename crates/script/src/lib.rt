@@ -21,10 +21,14 @@ ghost use Rattle.script.specs.Line.{
   cellCall,
   placeCall,
   addressCall,
+  halfwordsIn,
+  busCall,
+  slotsCall,
   callOf,
   noLine,
   takeOf,
   lineCall,
+  givenOf,
 };
 
 // One line of a script.
@@ -41,7 +45,14 @@ pub enum Call {
     // The standalone map: CFG, ROW and an address, or a cell.
     Cell(u32, u32, u32),
     Address(u32, u32, Cell),
+    // How many halfwords the line has; `Line::given` has them.
+    Bus(usize),
+    // How many places for commands and for reports.
+    Slots(u32, u32),
 }
+
+// A line of 255 bytes has room for so many numbers: `bus` and 126 times a space and a digit.
+pub const NUMBERS: usize = 126;
 
 // The words of a line, as far as they have been read.
 pub struct Words {
@@ -53,7 +64,7 @@ pub struct Words {
     at: usize,
     // The number under way, and the numbers before it.
     number: Number,
-    given: [u32; 5],
+    given: [u32; NUMBERS],
 }
 
 // A line, as far as it has been read.
@@ -80,6 +91,10 @@ pub const CELL: u64 = 0x63656c6c;
 
 pub const ADDRESS: u64 = 0x61646472657373;
 
+pub const BUS: u64 = 0x627573;
+
+pub const SLOTS: u64 = 0x736c6f7473;
+
 // The call `address`, from its five numbers.
 fn place(cfg: u32, row: u32, bank: u32, rownumber: u32, column: u32) -> Call
     ensures { λ r. ⌜ r ≡ placeCall cfg row bank rownumber column ⌝ }
@@ -99,6 +114,20 @@ fn place(cfg: u32, row: u32, bank: u32, rownumber: u32, column: u32) -> Call
         column: Column(column as u16),
     };
     Call::Address(cfg, row, cell)
+}
+
+// Are all numbers halfwords?
+fn halfwords(given: [u32; NUMBERS]) -> bool
+    ensures { λ r. ⌜ r ≡ halfwordsIn given ⌝ }
+{
+    let mut i = 0;
+    while i < NUMBERS {
+        if 65535 < given[i] {
+            return false;
+        }
+        i += 1;
+    }
+    true
 }
 
 impl Words {
@@ -165,7 +194,7 @@ impl Words {
         if at < 1 {
             return self.ruined();
         }
-        if 5 < at {
+        if NUMBERS < at {
             return self.ruined();
         }
         let mut given = self.given;
@@ -291,6 +320,37 @@ impl Words {
         Call::Wrong
     }
 
+    fn bus(self) -> Call
+        ensures { λ r. ⌜ r ≡ busCall self ⌝ }
+    {
+        let given = self.given;
+        if self.at < 2 {
+            return Call::Wrong;
+        }
+        if halfwords(given) {
+            return Call::Bus(self.at - 1);
+        }
+        Call::Wrong
+    }
+
+    fn slots(self) -> Call
+        ensures { λ r. ⌜ r ≡ slotsCall self ⌝ }
+    {
+        let n = self.given;
+        let commands = n[0];
+        let reports = n[1];
+        if 4096 < commands {
+            return Call::Wrong;
+        }
+        if 4096 < reports {
+            return Call::Wrong;
+        }
+        if self.at == 3 {
+            return Call::Slots(commands, reports);
+        }
+        Call::Wrong
+    }
+
     // The call that the words make, the last one ended.
     fn call(self) -> Call
         ensures { λ r. ⌜ r ≡ callOf self ⌝ }
@@ -307,6 +367,8 @@ impl Words {
             BACKLOG => self.backlog(),
             CELL => self.cell(),
             ADDRESS => self.address(),
+            BUS => self.bus(),
+            SLOTS => self.slots(),
             _ => Call::Wrong,
         }
     }
@@ -317,7 +379,7 @@ impl Line {
     pub fn empty() -> Line
         ensures { λ r. ⌜ r ≡ noLine ⌝ }
     {
-        let given = [0; 5];
+        let given = [0; NUMBERS];
         let words = Words {
             wrong: false,
             name: 0,
@@ -375,5 +437,14 @@ impl Line {
         let words = self.words;
         let all = words.next();
         all.call()
+    }
+
+    // The line's numbers, where it ends here, and a 0 in each place behind them.
+    pub fn given(self) -> [u32; NUMBERS]
+        ensures { λ r. ⌜ r ≡ givenOf self ⌝ }
+    {
+        let words = self.words;
+        let all = words.next();
+        all.given
     }
 }
