@@ -35,8 +35,9 @@ use Rattle.script.specs.Line.{
   ruinedOf,
   letterOf,
   figureOf,
-  storedOf,
+  wideOf,
   nextOf,
+  keptOf,
   wordsOf,
   configCall,
   readCall,
@@ -46,14 +47,13 @@ use Rattle.script.specs.Line.{
   cellCall,
   placeCall,
   addressCall,
-  halfwordsIn,
   busCall,
   slotsCall,
   callOf,
   noLine,
   takeOf,
+  notedOf,
   lineCall,
-  givenOf,
   readFrom,
   parsed,
 }
@@ -153,15 +153,19 @@ lines =
     ∷ line "slots" Wrong
     ∷ []
 
-read-lines : map (λ (l : Line). parsed (l .text)) lines ≡ map (λ (l : Line). l .call) lines
-unfolding digitOf joinedOf moreDecimal moreHex firstByte afterZero numberOf valueOf noWords ruinedOf letterOf figureOf storedOf nextOf wordsOf configCall readCall writeCall slotCall backlogCall cellCall placeCall addressCall halfwordsIn busCall slotsCall callOf noLine takeOf lineCall readFrom parsed
+-- what stood in the numbers' places before, the numbers of another line among them, is not seen
+abbrev before : List ℕ
+before = replicate 126 4294967295
+
+read-lines : map (λ (l : Line). parsed before (l .text) .call) lines ≡ map (λ (l : Line). l .call) lines
+unfolding digitOf joinedOf moreDecimal moreHex firstByte afterZero numberOf valueOf noWords ruinedOf letterOf figureOf wideOf nextOf keptOf wordsOf configCall readCall writeCall slotCall backlogCall cellCall placeCall addressCall busCall slotsCall callOf noLine takeOf notedOf lineCall readFrom parsed
 read-lines = refl
 
 -- the halfwords of a line
-read-halfwords : take 4 (givenOf (readFrom noLine (ascii "bus 1 0xffff 65535"))) ≡ 1 ∷ 65535 ∷ 65535 ∷ 0 ∷ []
-unfolding digitOf joinedOf moreDecimal moreHex firstByte afterZero numberOf valueOf noWords ruinedOf letterOf figureOf storedOf nextOf wordsOf noLine takeOf givenOf readFrom
+read-halfwords : take 4 (parsed before (ascii "bus 1 0xffff 65535") .given) ≡ 1 ∷ 65535 ∷ 65535 ∷ 4294967295 ∷ []
+unfolding digitOf joinedOf moreDecimal moreHex firstByte afterZero numberOf valueOf noWords ruinedOf letterOf figureOf wideOf nextOf keptOf wordsOf configCall readCall writeCall slotCall backlogCall cellCall placeCall addressCall busCall slotsCall callOf noLine takeOf notedOf lineCall readFrom parsed
 read-halfwords = refl
 
-read-all-halfwords : givenOf (readFrom noLine (ascii "bus" ++ pairs 126 57)) ≡ replicate 126 9
-unfolding digitOf joinedOf moreDecimal moreHex firstByte afterZero numberOf valueOf noWords ruinedOf letterOf figureOf storedOf nextOf wordsOf noLine takeOf givenOf readFrom
+read-all-halfwords : parsed before (ascii "bus" ++ pairs 126 57) .given ≡ replicate 126 9
+unfolding digitOf joinedOf moreDecimal moreHex firstByte afterZero numberOf valueOf noWords ruinedOf letterOf figureOf wideOf nextOf keptOf wordsOf configCall readCall writeCall slotCall backlogCall cellCall placeCall addressCall busCall slotsCall callOf noLine takeOf notedOf lineCall readFrom parsed
 read-all-halfwords = refl

@@ -1,3 +1,2 @@
--- Laws for this crate's proofs, and worked examples.
-pub mod Laws
+-- Worked examples.
 pub mod Examples

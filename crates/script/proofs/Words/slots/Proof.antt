@@ -5,11 +5,11 @@ use Rattle.script.proofs.Words.slots.Tie as tie
 use Rattle.script.specs.Line.{slotsCall}
 use borrow.Author.Tests.{eq-eqb, le-ltb, lt-ltb, ne-eqb}
 
-array-read-commands : tie.Need-array-read-commands
-array-read-commands c = search needs
+element-copy-out-commands : tie.Need-element-copy-out-commands
+element-copy-out-commands c = search needs
 
-array-read-reports : tie.Need-array-read-reports
-array-read-reports c = search needs
+element-copy-out-reports : tie.Need-element-copy-out-reports
+element-copy-out-reports c = search needs
 
 returns : tie.Need-returns
 unfolding slotsCall
@@ -30,4 +30,10 @@ returns-4 c = simp (le-ltb _ _ (c .before .before .before .if1 .left), le-ltb _ 
 pub slots-spec : {M : Type 1} → statement M
 slots-spec =
     tie.close
-    (tie.spec array-read-commands array-read-reports returns returns-2 returns-3 returns-4)
+    (tie.spec
+    element-copy-out-commands
+    element-copy-out-reports
+    returns
+    returns-2
+    returns-3
+    returns-4)
