@@ -7,6 +7,15 @@ use Rattle.text.specs.Spelling.{ascii, saidOf, emptyOf, byteOf, spelledOf, word
 use Rattle.address.specs.declared.Cell as A
 use Rattle.command.specs.declared.Command.the-variants.{Nop, Act, Wrt, Pre, Deac, Refr, Mrs, Read as Fetch}
 use Rattle.plan.specs.declared.Report.the-variants.{Nothing as Silent, Read as Got, Write as Put}
+use Rattle.packing.specs.Packing.{
+  commandWord,
+  commandIn,
+  packsCommand,
+  reportWord,
+  reportIn,
+  packsReport,
+  wordOf as fieldsOf,
+}
 use Rattle.answer.specs.declared.Answer.{Answer}
 use Rattle.answer.specs.declared.Answer.the-variants as Answer
 use Rattle.answer.specs.Output.{
@@ -20,6 +29,11 @@ use Rattle.answer.specs.Output.{
   numberLine,
   pairLine,
   slotLine,
+  unknownOf,
+  packedCommand,
+  packedReport,
+  packedLine,
+  unknownLine,
   cellLine,
   answerLine,
 }
@@ -55,8 +69,23 @@ answers =
     -- the longest line that the numbers' types allow
     ∷ said (Answer.Slot 255 (Wrt (record { 0 = 255 }) (record { 0 = 65535 }) 65535) (Got 4294967295 65535))
     "slot 255 WRT 255 65535 65535 read 4294967295 65535\n"
+    ∷ said (Answer.Bus 4096) "bus 4096\n"
+    ∷ said (Answer.Slots 0 3) "slots 0 3\n"
+    ∷ said (Answer.Slots 255 18446744073709551615) "slots 255 18446744073709551615\n"
+    -- the words of a command and a report
+    ∷ said (Answer.Packed 0 0) "slot 0 NOP -\n"
+    ∷ said (Answer.Packed 0x1fff0301 0) "slot 0 ACT 3 8191 -\n"
+    ∷ said (Answer.Packed 0xffff07ff0203 0xa00000002) "slot 0 WRT 2 2047 65535 write 10\n"
+    ∷ said (Answer.Packed 5 0x200070001) "slot 0 DEAC read 2 7\n"
+    ∷ said (Answer.Packed 0xffffffffff03 0xffffffffffff0001) "slot 0 WRT 255 65535 65535 read 4294967295 65535\n"
+    -- words that pack none: another kind, a bank or a number where none belongs
+    ∷ said (Answer.Packed 8 0) "slot 0 ? -\n"
+    ∷ said (Answer.Packed 0x100 3) "slot 0 ? ?\n"
+    ∷ said (Answer.Packed 0x1000007ff0203 0xa00000002) "slot 0 ? write 10\n"
+    ∷ said (Answer.Packed 6 0xa00010002) "slot 0 REFR ?\n"
+    ∷ said Answer.Unknown "?\n"
     ∷ []
 
 written-lines : map (λ (w : Written). saidOf (answerLine (w .answer))) answers ≡ map (λ (w : Written). w .text) answers
-unfolding emptyOf byteOf spelledOf wordOf decimalOf andWord andNumber andOne andTwo commandOf reportOf begunOf numberLine pairLine slotLine cellLine answerLine
+unfolding emptyOf byteOf spelledOf wordOf decimalOf andWord andNumber andOne andTwo commandOf reportOf begunOf numberLine pairLine slotLine unknownOf packedCommand packedReport packedLine unknownLine fieldsOf commandWord commandIn packsCommand reportWord reportIn packsReport cellLine answerLine
 written-lines = refl

@@ -1,5 +1,6 @@
 -- The line that is written for an answer (REPLAY.md, "Output").
 use Prim.Native.Nat.{ℕ}
+use mathlib.Core.Bool.{cond}
 use mathlib.Core.Option.{Option, none, some}
 use Rattle.text.specs.declared.Text.{Text}
 use Rattle.text.specs.Spelling.{letters, emptyOf, byteOf, wordOf, decimalOf}
@@ -9,6 +10,7 @@ use Rattle.command.specs.declared.Command.the-variants.{Nop, Act, Wrt, Pre, Dea
 use Rattle.plan.specs.declared.Report.{Report}
 use Rattle.plan.specs.Completion.{Completion, completionOf}
 use Rattle.queue.specs.declared.Kind.{Kind}
+use Rattle.packing.specs.Packing.{commandIn, packsCommand, reportIn, packsReport}
 use Rattle.answer.specs.declared.Answer.{Answer}
 use Rattle.answer.specs.declared.Answer.the-variants.{
   Config,
@@ -18,6 +20,10 @@ use Rattle.answer.specs.declared.Answer.the-variants.{
   Backlog,
   Cell,
   Address,
+  Bus,
+  Slots,
+  Packed,
+  Unknown,
   Wrong,
 }
 
@@ -76,6 +82,25 @@ pairLine w a b = byteOf (andNumber (begunOf w a) b) 10
 unfoldable pub slotLine : ℕ → Command → Report → Text
 slotLine n c r = byteOf (reportOf (commandOf (begunOf (letters "slot") n) c) r) 10
 
+-- COMMAND and REPORT from the words that pack them; `?` for a word that packs none
+
+unfoldable pub unknownOf : Text → Text
+unknownOf t = byteOf (byteOf t 32) 63
+
+unfoldable pub packedCommand : Text → ℕ → Text
+packedCommand t w = cond (packsCommand w) (commandOf t (commandIn w)) (unknownOf t)
+
+unfoldable pub packedReport : Text → ℕ → Text
+packedReport t w = cond (packsReport w) (reportOf t (reportIn w)) (unknownOf t)
+
+-- a slot's line as `slot` gives it, from its two words
+unfoldable pub packedLine : ℕ → ℕ → Text
+packedLine c r = byteOf (packedReport (packedCommand (begunOf (letters "slot") 0) c) r) 10
+
+-- a place beyond the count that is not 0 any more
+unfoldable pub unknownLine : Text
+unknownLine = byteOf (byteOf emptyOf 63) 10
+
 unfoldable pub cellLine : ToCell → Text
 cellLine a =
     byteOf
@@ -93,4 +118,8 @@ answerLine (Slot n c r) = slotLine n c r
 answerLine (Backlog n b) = pairLine (letters "backlog") n b
 answerLine (Cell a) = cellLine a
 answerLine (Address a) = pairLine (letters "address") (a .number) (a .address)
+answerLine (Bus n) = numberLine (letters "bus") n
+answerLine (Slots n k) = pairLine (letters "slots") n k
+answerLine (Packed c r) = packedLine c r
+answerLine Unknown = unknownLine
 answerLine (Wrong n) = numberLine (letters "error") n

@@ -4,10 +4,12 @@ use command::Command;
 use plan::Report;
 use script::ADDRESS;
 use script::BACKLOG;
+use script::BUS;
 use script::CELL;
 use script::CONFIG;
 use script::READ;
 use script::SLOT;
+use script::SLOTS;
 use script::WRITE;
 use standalone::ToAddress;
 use standalone::ToCell;
@@ -24,6 +26,11 @@ ghost use Rattle.answer.specs.Output.{
   numberLine,
   pairLine,
   slotLine,
+  unknownOf,
+  packedCommand,
+  packedReport,
+  packedLine,
+  unknownLine,
   cellLine,
   answerLine,
 };
@@ -38,6 +45,14 @@ pub enum Answer {
     Backlog(u8, u8),
     Cell(ToCell),
     Address(ToAddress),
+    // How many halfwords wait.
+    Bus(usize),
+    // And how many slots were made.
+    Slots(u8, usize),
+    // One of those slots: the words of its command and of its report.
+    Packed(u64, u64),
+    // A place behind those slots that is no longer 0.
+    Unknown,
     // A line that is no call: its place in the script, counted from 1.
     Wrong(u64),
 }
@@ -138,16 +153,56 @@ fn number_line(letters: u64, n: u64) -> Text
 }
 
 // A line of a word and two numbers.
-fn pair_line(letters: u64, a: u8, b: u32) -> Text
+fn pair_line(letters: u64, a: u8, b: u64) -> Text
     ensures { λ r. ⌜ r ≡ pairLine letters a b ⌝ }
 {
-    and_number(begun(letters, a as u64), b as u64).byte(10)
+    and_number(begun(letters, a as u64), b).byte(10)
 }
 
 fn slot_line(number: u8, command: Command, report: Report) -> Text
     ensures { λ r. ⌜ r ≡ slotLine number command report ⌝ }
 {
     and_report(and_command(begun(SLOT, number as u64), command), report).byte(10)
+}
+
+// `?` in the place of what a word does not pack.
+fn and_unknown(text: Text) -> Text
+    ensures { λ r. ⌜ r ≡ unknownOf text ⌝ }
+{
+    text.byte(32).byte(63)
+}
+
+// The command that a word packs.
+fn and_packed_command(text: Text, word: u64) -> Text
+    ensures { λ r. ⌜ r ≡ packedCommand text word ⌝ }
+{
+    if packing::packs_command(word) {
+        return and_command(text, packing::unpack_command(word));
+    }
+    and_unknown(text)
+}
+
+// The report that a word packs.
+fn and_packed_report(text: Text, word: u64) -> Text
+    ensures { λ r. ⌜ r ≡ packedReport text word ⌝ }
+{
+    if packing::packs_report(word) {
+        return and_report(text, packing::unpack_report(word));
+    }
+    and_unknown(text)
+}
+
+// A slot's line from its two words.
+fn packed_line(command: u64, report: u64) -> Text
+    ensures { λ r. ⌜ r ≡ packedLine command report ⌝ }
+{
+    and_packed_report(and_packed_command(begun(SLOT, 0), command), report).byte(10)
+}
+
+fn unknown_line() -> Text
+    ensures { λ r. ⌜ r ≡ unknownLine ⌝ }
+{
+    Text::empty().byte(63).byte(10)
 }
 
 fn cell_line(answer: ToCell) -> Text
@@ -165,12 +220,16 @@ impl Answer {
     {
         match self {
             Answer::Config(number) => number_line(CONFIG, number as u64),
-            Answer::Read(number, request) => pair_line(READ, number, request),
-            Answer::Write(number, request) => pair_line(WRITE, number, request),
+            Answer::Read(number, request) => pair_line(READ, number, request as u64),
+            Answer::Write(number, request) => pair_line(WRITE, number, request as u64),
             Answer::Slot(number, command, report) => slot_line(number, command, report),
-            Answer::Backlog(number, backlog) => pair_line(BACKLOG, number, backlog as u32),
+            Answer::Backlog(number, backlog) => pair_line(BACKLOG, number, backlog as u64),
             Answer::Cell(answer) => cell_line(answer),
-            Answer::Address(answer) => pair_line(ADDRESS, answer.number, answer.address),
+            Answer::Address(answer) => pair_line(ADDRESS, answer.number, answer.address as u64),
+            Answer::Bus(waiting) => number_line(BUS, waiting as u64),
+            Answer::Slots(number, count) => pair_line(SLOTS, number, count as u64),
+            Answer::Packed(command, report) => packed_line(command, report),
+            Answer::Unknown => unknown_line(),
             Answer::Wrong(line) => number_line(ERROR, line),
         }
     }

@@ -1,6 +1,6 @@
--- A line of a script, byte by byte, and the call that it is (REPLAY.md, "Script").
+-- A line of a script, byte by byte, and the call that it is (REPLAY.md, "Script"). The line's numbers are a list beside it.
 use Prim.Native.Nat.{ℕ, _+_, _-_, _*_}
-use mathlib.Core.Bool.{true, false, cond}
+use mathlib.Core.Bool.{Bool, true, false, cond}
 use mathlib.Core.List.{List, [], _∷_}
 use lib.Dec.{ltb, leb, eqb}
 use lib.ListN.{getD, set, replicate}
@@ -20,14 +20,16 @@ use Rattle.script.specs.declared.Call.the-variants.{
   Backlog,
   Cell,
   Address,
+  Bus,
+  Slots,
 }
 
 unfoldable pub noWords : Words
-noWords = record { wrong = false; name = 0; at = 0; number = Empty; given = replicate 5 0 }
+noWords = record { wrong = false; name = 0; at = 0; number = Empty; wide = false }
 
 -- the line is no call
 unfoldable pub ruinedOf : Words → Words
-ruinedOf w = record { wrong = true; name = w .name; at = w .at; number = NoNumber; given = w .given }
+ruinedOf w = record { wrong = true; name = w .name; at = w .at; number = NoNumber; wide = w .wide }
 
 -- one byte more of the name: a small letter, and eight of them at most
 unfoldable pub letterOf : Words → ℕ → Words
@@ -35,7 +37,7 @@ letterOf w b =
     cond (ltb b 97) (ruinedOf w)
     (cond (ltb 122 b) (ruinedOf w)
     (cond (ltb 72057594037927935 (w .name)) (ruinedOf w)
-    (record { wrong = w .wrong; name = w .name * 256 + b; at = w .at; number = w .number; given = w .given })))
+    (record { wrong = w .wrong; name = w .name * 256 + b; at = w .at; number = w .number; wide = w .wide })))
 
 -- one byte more of a number
 unfoldable pub figureOf : Words → ℕ → Words
@@ -45,27 +47,33 @@ figureOf w b =
       name = w .name;
       at = w .at;
       number = numberOf (w .number) b;
-      given = w .given;
+      wide = w .wide;
     }
 
--- the word under way was a number of this value: the fifth number at most
-unfoldable pub storedOf : Words → ℕ → Words
-storedOf w v =
-    cond (ltb (w .at) 1) (ruinedOf w)
-    (cond (ltb 5 (w .at)) (ruinedOf w)
+-- is one of the numbers more than a halfword, with this one among them?
+unfoldable pub wideOf : Bool → ℕ → Bool
+wideOf before v = cond (ltb 65535 v) true before
+
+-- the word under way has ended; after the name 126 numbers at most, for a line has at most 255 bytes
+unfoldable pub nextOf : Words → Words
+nextOf w =
+    cond (eqb (w .at) 0) (record { wrong = w .wrong; name = w .name; at = 1; number = Empty; wide = w .wide })
+    (cond (ltb 126 (w .at)) (ruinedOf w)
+    (cond (leb none (valueOf (w .number))) (ruinedOf w)
     (record {
       wrong = w .wrong;
       name = w .name;
       at = w .at + 1;
       number = Empty;
-      given = set (w .given) (w .at - 1) v;
-    }))
+      wide = wideOf (w .wide) (valueOf (w .number));
+    })))
 
--- the word under way has ended
-unfoldable pub nextOf : Words → Words
-nextOf w =
-    cond (eqb (w .at) 0) (record { wrong = w .wrong; name = w .name; at = 1; number = Empty; given = w .given })
-    (cond (leb none (valueOf (w .number))) (ruinedOf w) (storedOf w (valueOf (w .number))))
+-- the numbers, where the word under way ends here: if it is one, it is put into its place
+unfoldable pub keptOf : Words → List ℕ → List ℕ
+keptOf w g =
+    cond (eqb (w .at) 0) g
+    (cond (ltb 126 (w .at)) g
+    (cond (leb none (valueOf (w .number))) g (set g (w .at - 1) (valueOf (w .number)))))
 
 -- one byte more; a space ends a word
 unfoldable pub wordsOf : Words → ℕ → Words
@@ -73,26 +81,26 @@ wordsOf w b = cond (eqb b 32) (nextOf w) (cond (eqb (w .at) 0) (letterOf w b) (f
 
 -- The calls by their names, each with as many numbers as it has, none of them too large for its place.
 
-abbrev pub nth : Words → ℕ → ℕ
-nth w i = getD (w .given) i 0
+abbrev pub nth : List ℕ → ℕ → ℕ
+nth g i = getD g i 0
 
-unfoldable pub configCall : Words → Call
-configCall w = cond (eqb (w .at) 5) (Config (nth w 0) (nth w 1) (nth w 2) (nth w 3)) Wrong
+unfoldable pub configCall : Words → List ℕ → Call
+configCall w g = cond (eqb (w .at) 5) (Config (nth g 0) (nth g 1) (nth g 2) (nth g 3)) Wrong
 
-unfoldable pub readCall : Words → Call
-readCall w = cond (eqb (w .at) 2) (Read (nth w 0)) Wrong
+unfoldable pub readCall : Words → List ℕ → Call
+readCall w g = cond (eqb (w .at) 2) (Read (nth g 0)) Wrong
 
-unfoldable pub writeCall : Words → Call
-writeCall w = cond (ltb 65535 (nth w 1)) Wrong (cond (eqb (w .at) 3) (Write (nth w 0) (nth w 1)) Wrong)
+unfoldable pub writeCall : Words → List ℕ → Call
+writeCall w g = cond (ltb 65535 (nth g 1)) Wrong (cond (eqb (w .at) 3) (Write (nth g 0) (nth g 1)) Wrong)
 
-unfoldable pub slotCall : Words → Call
-slotCall w = cond (ltb 65535 (nth w 0)) Wrong (cond (eqb (w .at) 2) (Slot (nth w 0)) Wrong)
+unfoldable pub slotCall : Words → List ℕ → Call
+slotCall w g = cond (ltb 65535 (nth g 0)) Wrong (cond (eqb (w .at) 2) (Slot (nth g 0)) Wrong)
 
 unfoldable pub backlogCall : Words → Call
 backlogCall w = cond (eqb (w .at) 1) Backlog Wrong
 
-unfoldable pub cellCall : Words → Call
-cellCall w = cond (eqb (w .at) 4) (Cell (nth w 0) (nth w 1) (nth w 2)) Wrong
+unfoldable pub cellCall : Words → List ℕ → Call
+cellCall w g = cond (eqb (w .at) 4) (Cell (nth g 0) (nth g 1) (nth g 2)) Wrong
 
 -- CFG ROW BANK ROWNUMBER COLUMN
 unfoldable pub placeCall : ℕ → ℕ → ℕ → ℕ → ℕ → Call
@@ -102,21 +110,33 @@ placeCall cfg row b r c =
     (cond (ltb 65535 c) Wrong
     (Address cfg row (record { bank = record { 0 = b }; row = record { 0 = r }; column = record { 0 = c } }))))
 
-unfoldable pub addressCall : Words → Call
-addressCall w =
-    cond (eqb (w .at) 6) (placeCall (nth w 0) (nth w 1) (nth w 2) (nth w 3) (nth w 4)) Wrong
+unfoldable pub addressCall : Words → List ℕ → Call
+addressCall w g =
+    cond (eqb (w .at) 6) (placeCall (nth g 0) (nth g 1) (nth g 2) (nth g 3) (nth g 4)) Wrong
+
+-- one halfword at least
+unfoldable pub busCall : Words → Call
+busCall w = cond (ltb (w .at) 2) Wrong (cond (w .wide) Wrong (Bus (w .at - 1)))
+
+-- COMMANDS REPORTS, 4,096 at most each
+unfoldable pub slotsCall : Words → List ℕ → Call
+slotsCall w g =
+    cond (ltb 4096 (nth g 0)) Wrong
+    (cond (ltb 4096 (nth g 1)) Wrong (cond (eqb (w .at) 3) (Slots (nth g 0) (nth g 1)) Wrong))
 
 -- the call that the words make, the last one ended
-unfoldable pub callOf : Words → Call
-callOf w =
+unfoldable pub callOf : Words → List ℕ → Call
+callOf w g =
     cond (w .wrong) Wrong
-    (cond (eqb (w .name) (letters "config")) (configCall w)
-    (cond (eqb (w .name) (letters "read")) (readCall w)
-    (cond (eqb (w .name) (letters "write")) (writeCall w)
-    (cond (eqb (w .name) (letters "slot")) (slotCall w)
+    (cond (eqb (w .name) (letters "config")) (configCall w g)
+    (cond (eqb (w .name) (letters "read")) (readCall w g)
+    (cond (eqb (w .name) (letters "write")) (writeCall w g)
+    (cond (eqb (w .name) (letters "slot")) (slotCall w g)
     (cond (eqb (w .name) (letters "backlog")) (backlogCall w)
-    (cond (eqb (w .name) (letters "cell")) (cellCall w)
-    (cond (eqb (w .name) (letters "address")) (addressCall w) Wrong)))))))
+    (cond (eqb (w .name) (letters "cell")) (cellCall w g)
+    (cond (eqb (w .name) (letters "address")) (addressCall w g)
+    (cond (eqb (w .name) (letters "bus")) (busCall w)
+    (cond (eqb (w .name) (letters "slots")) (slotsCall w g) Wrong)))))))))
 
 unfoldable pub noLine : Line
 noLine = record { size = 0; comment = false; words = noWords }
@@ -128,16 +148,24 @@ takeOf l b =
     (cond (eqb (l .size) 0) (record { size = 1; comment = eqb b 35; words = wordsOf (l .words) b })
     (record { size = l .size + 1; comment = l .comment; words = wordsOf (l .words) b }))
 
--- the call that a line is, where it ends here
-unfoldable pub lineCall : Line → Call
-lineCall l =
+-- the numbers after one byte more, which may end one
+unfoldable pub notedOf : Line → ℕ → List ℕ → List ℕ
+notedOf l b g = cond (eqb b 32) (keptOf (l .words) g) g
+
+-- the call that a line is, where it ends here, with its numbers
+unfoldable pub lineCall : Line → List ℕ → Call
+lineCall l g =
     cond (eqb (l .size) 0) Nothing
-    (cond (l .comment) Nothing (cond (ltb 255 (l .size)) Wrong (callOf (nextOf (l .words)))))
+    (cond (l .comment) Nothing (cond (ltb 255 (l .size)) Wrong (callOf (nextOf (l .words)) g)))
 
--- a whole line, read from its first byte on
-unfoldable pub readFrom : Line → List ℕ → Line
-readFrom l [] = l
-readFrom l (b ∷ bs) = readFrom (takeOf l b) bs
+-- a whole line, read from its first byte on: its call, and its numbers in the first places of a list
+pub record Told : Type 0 where
+  pub call : Call
+  pub given : List ℕ
 
-unfoldable pub parsed : List ℕ → Call
-parsed bs = lineCall (readFrom noLine bs)
+unfoldable pub readFrom : Line → List ℕ → List ℕ → Told
+readFrom l g [] = record { call = lineCall l (keptOf (l .words) g); given = keptOf (l .words) g }
+readFrom l g (b ∷ bs) = readFrom (takeOf l b) (notedOf l b g) bs
+
+unfoldable pub parsed : List ℕ → List ℕ → Told
+parsed g bs = readFrom noLine g bs

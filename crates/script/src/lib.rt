@@ -10,8 +10,9 @@ ghost use Rattle.script.specs.Line.{
   ruinedOf,
   letterOf,
   figureOf,
-  storedOf,
+  wideOf,
   nextOf,
+  keptOf,
   wordsOf,
   configCall,
   readCall,
@@ -21,9 +22,12 @@ ghost use Rattle.script.specs.Line.{
   cellCall,
   placeCall,
   addressCall,
+  busCall,
+  slotsCall,
   callOf,
   noLine,
   takeOf,
+  notedOf,
   lineCall,
 };
 
@@ -41,9 +45,17 @@ pub enum Call {
     // The standalone map: CFG, ROW and an address, or a cell.
     Cell(u32, u32, u32),
     Address(u32, u32, Cell),
+    // How many halfwords; they are the line's numbers.
+    Bus(usize),
+    // How many places for commands and for reports.
+    Slots(u32, u32),
 }
 
-// The words of a line, as far as they have been read.
+// A line of 255 bytes has room for so many numbers: `bus` and 126 times a space and a digit.
+pub const NUMBERS: usize = 126;
+
+// The words of a line, as far as they have been read. Its numbers are kept beside them, in an array that is lent: copied with each byte, they
+// would more than double the time that a script takes.
 pub struct Words {
     // Is it known that the line is no call?
     wrong: bool,
@@ -51,9 +63,10 @@ pub struct Words {
     name: u64,
     // Which word is under way, 0 for the name.
     at: usize,
-    // The number under way, and the numbers before it.
+    // The number under way.
     number: Number,
-    given: [u32; 5],
+    // Is one of the numbers before it more than a halfword?
+    wide: bool,
 }
 
 // A line, as far as it has been read.
@@ -80,6 +93,10 @@ pub const CELL: u64 = 0x63656c6c;
 
 pub const ADDRESS: u64 = 0x61646472657373;
 
+pub const BUS: u64 = 0x627573;
+
+pub const SLOTS: u64 = 0x736c6f7473;
+
 // The call `address`, from its five numbers.
 fn place(cfg: u32, row: u32, bank: u32, rownumber: u32, column: u32) -> Call
     ensures { λ r. ⌜ r ≡ placeCall cfg row bank rownumber column ⌝ }
@@ -101,18 +118,27 @@ fn place(cfg: u32, row: u32, bank: u32, rownumber: u32, column: u32) -> Call
     Call::Address(cfg, row, cell)
 }
 
+// Is one of the numbers more than a halfword, where that is known of those before this one?
+fn wider(wide: bool, value: u64) -> bool
+    ensures { λ r. ⌜ r ≡ wideOf wide value ⌝ }
+{
+    if 65535 < value {
+        return true;
+    }
+    wide
+}
+
 impl Words {
     // The line is no call.
     fn ruined(self) -> Words
         ensures { λ r. ⌜ r ≡ ruinedOf self ⌝ }
     {
-        let given = self.given;
         Words {
             wrong: true,
             name: self.name,
             at: self.at,
             number: Number::Wrong,
-            given,
+            wide: self.wide,
         }
     }
 
@@ -131,13 +157,12 @@ impl Words {
             return self.ruined();
         }
         let number = self.number;
-        let given = self.given;
         Words {
             wrong: self.wrong,
             name: self.name * 256 + byte as u64,
             at: self.at,
             number,
-            given,
+            wide: self.wide,
         }
     }
 
@@ -147,58 +172,62 @@ impl Words {
     {
         let before = self.number;
         let number = before.take(byte);
-        let given = self.given;
         Words {
             wrong: self.wrong,
             name: self.name,
             at: self.at,
             number,
-            given,
+            wide: self.wide,
         }
     }
 
-    // The word under way was a number of this value, and the next one begins.
-    fn stored(self, value: u32) -> Words
-        ensures { λ r. ⌜ r ≡ storedOf self value ⌝ }
-    {
-        let at = self.at;
-        if at < 1 {
-            return self.ruined();
-        }
-        if 5 < at {
-            return self.ruined();
-        }
-        let mut given = self.given;
-        given[at - 1] = value;
-        Words {
-            wrong: self.wrong,
-            name: self.name,
-            at: at + 1,
-            number: Number::Empty,
-            given,
-        }
-    }
-
-    // The word under way has ended.
+    // The word under way has ended, and the next one begins.
     fn next(self) -> Words
         ensures { λ r. ⌜ r ≡ nextOf self ⌝ }
     {
         if self.at == 0 {
-            let given = self.given;
             return Words {
                 wrong: self.wrong,
                 name: self.name,
                 at: 1,
                 number: Number::Empty,
-                given,
+                wide: self.wide,
             };
+        }
+        if NUMBERS < self.at {
+            return self.ruined();
         }
         let number = self.number;
         let value = number.value();
         if NONE <= value {
             return self.ruined();
         }
-        self.stored(value as u32)
+        Words {
+            wrong: self.wrong,
+            name: self.name,
+            at: self.at + 1,
+            number: Number::Empty,
+            wide: wider(self.wide, value),
+        }
+    }
+
+    // The word under way ends here: a number is put into its place.
+    fn keep(self, given: &mut [u32; NUMBERS])
+        ensures { λ _. ⌜ now (given .exit) ≡ keptOf self (now (given .entry)) ⌝ }
+    {
+        let at = self.at;
+        if at == 0 {
+            return;
+        }
+        if NUMBERS < at {
+            return;
+        }
+        let number = self.number;
+        let value = number.value();
+        if NONE <= value {
+            return;
+        }
+        given[at - 1] = value as u32;
     }
 
     // One byte more.
@@ -214,30 +243,27 @@ impl Words {
         self.figure(byte)
     }
 
-    fn config(self) -> Call
-        ensures { λ r. ⌜ r ≡ configCall self ⌝ }
+    fn config(self, n: &[u32; NUMBERS]) -> Call
+        ensures { λ r. ⌜ r ≡ configCall self (now (n .entry)) ⌝ }
     {
-        let n = self.given;
         if self.at == 5 {
             return Call::Config(n[0], n[1], n[2], n[3]);
         }
         Call::Wrong
     }
 
-    fn read(self) -> Call
-        ensures { λ r. ⌜ r ≡ readCall self ⌝ }
+    fn read(self, n: &[u32; NUMBERS]) -> Call
+        ensures { λ r. ⌜ r ≡ readCall self (now (n .entry)) ⌝ }
     {
-        let n = self.given;
         if self.at == 2 {
             return Call::Read(n[0]);
         }
         Call::Wrong
     }
 
-    fn write(self) -> Call
-        ensures { λ r. ⌜ r ≡ writeCall self ⌝ }
+    fn write(self, n: &[u32; NUMBERS]) -> Call
+        ensures { λ r. ⌜ r ≡ writeCall self (now (n .entry)) ⌝ }
     {
-        let n = self.given;
         let halfword = n[1];
         if 65535 < halfword {
             return Call::Wrong;
@@ -248,10 +274,9 @@ impl Words {
         Call::Wrong
     }
 
-    fn slot(self) -> Call
-        ensures { λ r. ⌜ r ≡ slotCall self ⌝ }
+    fn slot(self, n: &[u32; NUMBERS]) -> Call
+        ensures { λ r. ⌜ r ≡ slotCall self (now (n .entry)) ⌝ }
     {
-        let n = self.given;
         let halfword = n[0];
         if 65535 < halfword {
             return Call::Wrong;
@@ -271,42 +296,71 @@ impl Words {
         Call::Wrong
     }
 
-    fn cell(self) -> Call
-        ensures { λ r. ⌜ r ≡ cellCall self ⌝ }
+    fn cell(self, n: &[u32; NUMBERS]) -> Call
+        ensures { λ r. ⌜ r ≡ cellCall self (now (n .entry)) ⌝ }
     {
-        let n = self.given;
         if self.at == 4 {
             return Call::Cell(n[0], n[1], n[2]);
         }
         Call::Wrong
     }
 
-    fn address(self) -> Call
-        ensures { λ r. ⌜ r ≡ addressCall self ⌝ }
+    fn address(self, n: &[u32; NUMBERS]) -> Call
+        ensures { λ r. ⌜ r ≡ addressCall self (now (n .entry)) ⌝ }
     {
-        let n = self.given;
         if self.at == 6 {
             return place(n[0], n[1], n[2], n[3], n[4]);
         }
         Call::Wrong
     }
 
+    fn bus(self) -> Call
+        ensures { λ r. ⌜ r ≡ busCall self ⌝ }
+    {
+        if self.at < 2 {
+            return Call::Wrong;
+        }
+        if self.wide {
+            return Call::Wrong;
+        }
+        Call::Bus(self.at - 1)
+    }
+
+    fn slots(self, n: &[u32; NUMBERS]) -> Call
+        ensures { λ r. ⌜ r ≡ slotsCall self (now (n .entry)) ⌝ }
+    {
+        let commands = n[0];
+        let reports = n[1];
+        if 4096 < commands {
+            return Call::Wrong;
+        }
+        if 4096 < reports {
+            return Call::Wrong;
+        }
+        if self.at == 3 {
+            return Call::Slots(commands, reports);
+        }
+        Call::Wrong
+    }
+
     // The call that the words make, the last one ended.
-    fn call(self) -> Call
-        ensures { λ r. ⌜ r ≡ callOf self ⌝ }
+    fn call(self, given: &[u32; NUMBERS]) -> Call
+        ensures { λ r. ⌜ r ≡ callOf self (now (given .entry)) ⌝ }
     {
         if self.wrong {
             return Call::Wrong;
         }
         let name = self.name;
         match name {
-            CONFIG => self.config(),
-            READ => self.read(),
-            WRITE => self.write(),
-            SLOT => self.slot(),
+            CONFIG => self.config(given),
+            READ => self.read(given),
+            WRITE => self.write(given),
+            SLOT => self.slot(given),
             BACKLOG => self.backlog(),
-            CELL => self.cell(),
-            ADDRESS => self.address(),
+            CELL => self.cell(given),
+            ADDRESS => self.address(given),
+            BUS => self.bus(),
+            SLOTS => self.slots(given),
             _ => Call::Wrong,
         }
     }
@@ -317,19 +371,36 @@ impl Line {
     pub fn empty() -> Line
         ensures { λ r. ⌜ r ≡ noLine ⌝ }
     {
-        let given = [0; 5];
         let words = Words {
             wrong: false,
             name: 0,
             at: 0,
             number: Number::Empty,
-            given,
+            wide: false,
         };
         Line {
             size: 0,
             comment: false,
             words,
         }
+    }
+
+    // The byte that is taken next: where it ends a number, that is put into its place.
+    pub fn note(self, byte: u8, given: &mut [u32; NUMBERS])
+        ensures { λ _. ⌜ now (given .exit) ≡ notedOf self byte (now (given .entry)) ⌝ }
+    {
+        if byte != 32 {
+            return;
+        }
+        self.end(given);
+    }
+
+    // The line ends here: so does its last number.
+    pub fn end(self, given: &mut [u32; NUMBERS])
+        ensures { λ _. ⌜ now (given .exit) ≡ keptOf (self .words) (now (given .entry)) ⌝ }
+    {
+        let words = self.words;
+        words.keep(given);
     }
 
     // One byte more, which is no line feed.
@@ -359,9 +430,9 @@ impl Line {
         }
     }
 
-    // The call that the line is, where it ends here.
-    pub fn call(self) -> Call
-        ensures { λ r. ⌜ r ≡ lineCall self ⌝ }
+    // The call that the line is, where it ends here, with its numbers.
+    pub fn call(self, given: &[u32; NUMBERS]) -> Call
+        ensures { λ r. ⌜ r ≡ lineCall self (now (given .entry)) ⌝ }
     {
         if self.size == 0 {
             return Call::Nothing;
@@ -374,6 +445,6 @@ impl Line {
         }
         let words = self.words;
         let all = words.next();
-        all.call()
+        all.call(given)
     }
 }

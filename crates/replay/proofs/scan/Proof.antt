@@ -6,10 +6,10 @@ use Rattle.replay.proofs.scan.Statement.{statement}
 use Rattle.replay.proofs.scan.Tie as tie
 
 abbrev Inv-loop : tie.InvT-loop
-Inv-loop input from line₀ at₀ line at = from ≤ at
+Inv-loop given₀ input from line₀ at₀ given line at = from ≤ at
 
 abbrev μ-loop : tie.MeasureT-loop
-μ-loop input from line₀ at₀ line at = length input - at
+μ-loop given₀ input from line₀ at₀ given line at = length input - at
 
 loop-holds : tie.Need-loop-holds Inv-loop μ-loop
 loop-holds c = search needs
@@ -19,6 +19,9 @@ shared-slice-read-byte c = search needs
 
 returns : tie.Need-returns Inv-loop μ-loop
 returns c = search needs
+
+note-requires : tie.Need-note-requires Inv-loop μ-loop
+note-requires c κs = search needs
 
 take-requires : tie.Need-take-requires Inv-loop μ-loop
 take-requires c κs = search needs
@@ -44,6 +47,7 @@ scan-spec =
     loop-holds
     shared-slice-read-byte
     returns
+    note-requires
     take-requires
     add-at
     loop-less

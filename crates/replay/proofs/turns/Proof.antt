@@ -6,10 +6,10 @@ use Rattle.replay.proofs.turns.Statement.{statement}
 use Rattle.replay.proofs.turns.Tie as tie
 
 abbrev Inv-loop : tie.InvT-loop
-Inv-loop output₀ run₀ left₀ output run left = length output ≡ length output₀
+Inv-loop given₀ bus₀ output₀ run₀ left₀ given bus output run left = (length bus ≡ length bus₀) × (length output ≡ length output₀)
 
 abbrev μ-loop : tie.MeasureT-loop
-μ-loop output₀ run₀ left₀ output run left = left
+μ-loop given₀ bus₀ output₀ run₀ left₀ given bus output run left = left
 
 loop-holds : tie.Need-loop-holds Inv-loop μ-loop
 loop-holds c = search needs
@@ -19,6 +19,9 @@ turn-requires c κs = search needs
 
 same-length : tie.Need-same-length Inv-loop μ-loop
 same-length c = search needs
+
+same-length-2 : tie.Need-same-length-2 Inv-loop μ-loop
+same-length-2 c = search needs
 
 returns : tie.Need-returns Inv-loop μ-loop
 returns c = search needs
@@ -32,8 +35,11 @@ loop-less c = search needs
 loop-again : tie.Need-loop-again Inv-loop μ-loop
 loop-again c = search needs
 
-same-length-2 : tie.Need-same-length-2 Inv-loop μ-loop
-same-length-2 c = search needs
+same-length-3 : tie.Need-same-length-3 Inv-loop μ-loop
+same-length-3 c = search needs
+
+same-length-4 : tie.Need-same-length-4 Inv-loop μ-loop
+same-length-4 c = search needs
 
 returns-2 : tie.Need-returns-2 Inv-loop μ-loop
 returns-2 c = search needs
@@ -47,9 +53,11 @@ turns-spec =
     loop-holds
     turn-requires
     same-length
+    same-length-2
     returns
     sub-left
     loop-less
     loop-again
-    same-length-2
+    same-length-3
+    same-length-4
     returns-2)

@@ -16,11 +16,17 @@ number-line-requires c κs = search needs
 enum-known-self-2 : tie.Need-enum-known-self-2
 enum-known-self-2 c = search needs
 
+cast-pair-line : tie.Need-cast-pair-line
+cast-pair-line c = search needs
+
 pair-line-requires : tie.Need-pair-line-requires
 pair-line-requires c κs = search needs
 
 enum-known-self-3 : tie.Need-enum-known-self-3
 enum-known-self-3 c = search needs
+
+cast-pair-line-2 : tie.Need-cast-pair-line-2
+cast-pair-line-2 c = search needs
 
 pair-line-requires-2 : tie.Need-pair-line-requires-2
 pair-line-requires-2 c κs = search needs
@@ -34,8 +40,8 @@ slot-line-requires c κs = search needs
 enum-known-self-5 : tie.Need-enum-known-self-5
 enum-known-self-5 c = search needs
 
-cast-pair-line : tie.Need-cast-pair-line
-cast-pair-line c = search needs
+cast-pair-line-3 : tie.Need-cast-pair-line-3
+cast-pair-line-3 c = search needs
 
 pair-line-requires-3 : tie.Need-pair-line-requires-3
 pair-line-requires-3 c κs = search needs
@@ -49,6 +55,9 @@ cell-line-requires c κs = search needs
 enum-known-self-7 : tie.Need-enum-known-self-7
 enum-known-self-7 c = search needs
 
+cast-pair-line-4 : tie.Need-cast-pair-line-4
+cast-pair-line-4 c = search needs
+
 pair-line-requires-4 : tie.Need-pair-line-requires-4
 pair-line-requires-4 c κs = search needs
 
@@ -57,6 +66,30 @@ enum-known-self-8 c = search needs
 
 number-line-requires-2 : tie.Need-number-line-requires-2
 number-line-requires-2 c κs = search needs
+
+enum-known-self-9 : tie.Need-enum-known-self-9
+enum-known-self-9 c = search needs
+
+pair-line-requires-5 : tie.Need-pair-line-requires-5
+pair-line-requires-5 c κs = search needs
+
+enum-known-self-10 : tie.Need-enum-known-self-10
+enum-known-self-10 c = search needs
+
+packed-line-requires : tie.Need-packed-line-requires
+packed-line-requires c κs = search needs
+
+enum-told : tie.Need-enum-told
+enum-told c = search needs
+
+unknown-line-requires : tie.Need-unknown-line-requires
+unknown-line-requires c κs = search needs
+
+enum-known-self-11 : tie.Need-enum-known-self-11
+enum-known-self-11 c = search needs
+
+number-line-requires-3 : tie.Need-number-line-requires-3
+number-line-requires-3 c κs = search needs
 
 returns : tie.Need-returns
 unfolding answerLine
@@ -84,11 +117,27 @@ returns-6 c = simp (c .before .before .self6 .given .1, ← c .cell-line .ensure
 
 returns-7 : tie.Need-returns-7
 unfolding answerLine
-returns-7 c = simp (c .before .before .self7 .given .1, ← c .pair-line4 .ensures)
+returns-7 c = simp (c .before .before .before .self7 .given .1, ← c .pair-line4 .ensures)
 
 returns-8 : tie.Need-returns-8
 unfolding answerLine
 returns-8 c = simp (c .before .before .self8 .given .1, ← c .number-line2 .ensures)
+
+returns-9 : tie.Need-returns-9
+unfolding answerLine
+returns-9 c = simp (c .before .before .self9 .given .1, ← c .pair-line5 .ensures)
+
+returns-10 : tie.Need-returns-10
+unfolding answerLine
+returns-10 c = simp (c .before .before .self10 .given .1, ← c .packed-line .ensures)
+
+returns-11 : tie.Need-returns-11
+unfolding answerLine
+returns-11 c = simp (c .before .enum-told .given .1, ← c .unknown-line .ensures)
+
+returns-12 : tie.Need-returns-12
+unfolding answerLine
+returns-12 c = simp (c .before .before .self11 .given .1, ← c .number-line3 .ensures)
 
 pub line-spec : {M : Type 1} → statement M
 line-spec =
@@ -98,20 +147,31 @@ line-spec =
     cast-number-line
     number-line-requires
     enum-known-self-2
+    cast-pair-line
     pair-line-requires
     enum-known-self-3
+    cast-pair-line-2
     pair-line-requires-2
     enum-known-self-4
     slot-line-requires
     enum-known-self-5
-    cast-pair-line
+    cast-pair-line-3
     pair-line-requires-3
     enum-known-self-6
     cell-line-requires
     enum-known-self-7
+    cast-pair-line-4
     pair-line-requires-4
     enum-known-self-8
     number-line-requires-2
+    enum-known-self-9
+    pair-line-requires-5
+    enum-known-self-10
+    packed-line-requires
+    enum-told
+    unknown-line-requires
+    enum-known-self-11
+    number-line-requires-3
     returns
     returns-2
     returns-3
@@ -119,4 +179,8 @@ line-spec =
     returns-5
     returns-6
     returns-7
-    returns-8)
+    returns-8
+    returns-9
+    returns-10
+    returns-11
+    returns-12)

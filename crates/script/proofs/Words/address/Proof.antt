@@ -5,27 +5,27 @@ use Rattle.script.proofs.Words.address.Tie as tie
 use Rattle.script.specs.Line.{addressCall}
 use borrow.Author.Tests.{eq-eqb, ne-eqb}
 
-array-read-place : tie.Need-array-read-place
-array-read-place c = search needs
+element-copy-out-place : tie.Need-element-copy-out-place
+element-copy-out-place c = search needs
 
-array-read-place-2 : tie.Need-array-read-place-2
-array-read-place-2 c = search needs
+element-copy-out-place-2 : tie.Need-element-copy-out-place-2
+element-copy-out-place-2 c = search needs
 
-array-read-place-3 : tie.Need-array-read-place-3
-array-read-place-3 c = search needs
+element-copy-out-place-3 : tie.Need-element-copy-out-place-3
+element-copy-out-place-3 c = search needs
 
-array-read-place-4 : tie.Need-array-read-place-4
-array-read-place-4 c = search needs
+element-copy-out-place-4 : tie.Need-element-copy-out-place-4
+element-copy-out-place-4 c = search needs
 
-array-read-place-5 : tie.Need-array-read-place-5
-array-read-place-5 c = search needs
+element-copy-out-place-5 : tie.Need-element-copy-out-place-5
+element-copy-out-place-5 c = search needs
 
 place-requires : tie.Need-place-requires
 place-requires c κs = search needs
 
 returns : tie.Need-returns
 unfolding addressCall
-returns c = simp (eq-eqb _ _ (c .before .if1 .taken), ← c .place .ensures)
+returns c = simp (eq-eqb _ _ (c .before .before .before .before .before .before .if1 .taken), ← c .place .ensures)
 
 returns-2 : tie.Need-returns-2
 unfolding addressCall
@@ -35,11 +35,11 @@ pub address-spec : {M : Type 1} → statement M
 address-spec =
     tie.close
     (tie.spec
-    array-read-place
-    array-read-place-2
-    array-read-place-3
-    array-read-place-4
-    array-read-place-5
+    element-copy-out-place
+    element-copy-out-place-2
+    element-copy-out-place-3
+    element-copy-out-place-4
+    element-copy-out-place-5
     place-requires
     returns
     returns-2)

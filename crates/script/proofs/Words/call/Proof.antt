@@ -30,6 +30,12 @@ cell-requires c κs = search needs
 address-requires : tie.Need-address-requires
 address-requires c κs = search needs
 
+bus-requires : tie.Need-bus-requires
+bus-requires c κs = search needs
+
+slots-requires : tie.Need-slots-requires
+slots-requires c κs = search needs
+
 returns-2 : tie.Need-returns-2
 unfolding callOf
 returns-2 c = simp (c .before .before .if1 .left, c .before .match .keys1, ← c .config .ensures)
@@ -60,7 +66,15 @@ returns-8 c = simp (c .before .before .if1 .left, c .before .match .keys7, ← c
 
 returns-9 : tie.Need-returns-9
 unfolding callOf
-returns-9 c = simp (c .before .if1 .left, ne-eqb _ _ (c .match .rest .1), ne-eqb _ _ (c .match .rest .0 .1), ne-eqb _ _ (c .match .rest .0 .0 .1), ne-eqb _ _ (c .match .rest .0 .0 .0 .1), ne-eqb _ _ (c .match .rest .0 .0 .0 .0 .1), ne-eqb _ _ (c .match .rest .0 .0 .0 .0 .0 .1), ne-eqb _ _ (c .match .rest .0 .0 .0 .0 .0 .0 .1))
+returns-9 c = simp (c .before .before .if1 .left, c .before .match .keys8, ← c .bus .ensures)
+
+returns-10 : tie.Need-returns-10
+unfolding callOf
+returns-10 c = simp (c .before .before .if1 .left, c .before .match .keys9, ← c .slots .ensures)
+
+returns-11 : tie.Need-returns-11
+unfolding callOf
+returns-11 c = simp (c .before .if1 .left, ne-eqb _ _ (c .match .rest .1), ne-eqb _ _ (c .match .rest .0 .1), ne-eqb _ _ (c .match .rest .0 .0 .1), ne-eqb _ _ (c .match .rest .0 .0 .0 .1), ne-eqb _ _ (c .match .rest .0 .0 .0 .0 .1), ne-eqb _ _ (c .match .rest .0 .0 .0 .0 .0 .1), ne-eqb _ _ (c .match .rest .0 .0 .0 .0 .0 .0 .1), ne-eqb _ _ (c .match .rest .0 .0 .0 .0 .0 .0 .0 .1), ne-eqb _ _ (c .match .rest .0 .0 .0 .0 .0 .0 .0 .0 .1))
 
 pub call-spec : {M : Type 1} → statement M
 call-spec =
@@ -74,6 +88,8 @@ call-spec =
     backlog-requires
     cell-requires
     address-requires
+    bus-requires
+    slots-requires
     returns-2
     returns-3
     returns-4
@@ -81,4 +97,6 @@ call-spec =
     returns-6
     returns-7
     returns-8
-    returns-9)
+    returns-9
+    returns-10
+    returns-11)

@@ -5,22 +5,24 @@ use Rattle.script.proofs.Words.cell.Tie as tie
 use Rattle.script.specs.Line.{cellCall}
 use borrow.Author.Tests.{eq-eqb, ne-eqb}
 
-array-read-t6 : tie.Need-array-read-t6
-array-read-t6 c = search needs
+element-copy-out-t6 : tie.Need-element-copy-out-t6
+element-copy-out-t6 c = search needs
 
-array-read-t9 : tie.Need-array-read-t9
-array-read-t9 c = search needs
+element-copy-out-t9 : tie.Need-element-copy-out-t9
+element-copy-out-t9 c = search needs
 
-array-read-t12 : tie.Need-array-read-t12
-array-read-t12 c = search needs
+element-copy-out-t12 : tie.Need-element-copy-out-t12
+element-copy-out-t12 c = search needs
 
 returns : tie.Need-returns
 unfolding cellCall
-returns c = simp (eq-eqb _ _ (c .if1 .taken))
+returns c = simp (eq-eqb _ _ (c .before .before .before .if1 .taken))
 
 returns-2 : tie.Need-returns-2
 unfolding cellCall
 returns-2 c = simp (ne-eqb _ _ (c .if1 .left))
 
 pub cell-spec : {M : Type 1} → statement M
-cell-spec = tie.close (tie.spec array-read-t6 array-read-t9 array-read-t12 returns returns-2)
+cell-spec =
+    tie.close
+    (tie.spec element-copy-out-t6 element-copy-out-t9 element-copy-out-t12 returns returns-2)

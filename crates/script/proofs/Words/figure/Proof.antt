@@ -9,7 +9,7 @@ take-requires c κs = search needs
 
 returns : tie.Need-returns
 unfolding figureOf
-returns c = simp (← c .before .take .ensures)
+returns c = simp (← c .take .ensures)
 
 pub figure-spec : {M : Type 1} → statement M
 figure-spec = tie.close (tie.spec take-requires returns)

@@ -26,15 +26,15 @@ returns-3 : tie.Need-returns-3
 unfolding letterOf
 returns-3 c = simp (le-ltb _ _ (c .before .before .before .before .if1 .left), le-ltb _ _ (c .before .before .before .if2 .left), lt-ltb _ _ (c .before .if3 .taken), ← c .ruined3 .ensures)
 
-mul-t6 : tie.Need-mul-t6
-mul-t6 c = search needs
+mul-t5 : tie.Need-mul-t5
+mul-t5 c = search needs
 
-add-t8 : tie.Need-add-t8
-add-t8 c = search needs
+add-t7 : tie.Need-add-t7
+add-t7 c = search needs
 
 returns-4 : tie.Need-returns-4
 unfolding letterOf
-returns-4 c = simp (le-ltb _ _ (c .before .before .before .before .before .if1 .left), le-ltb _ _ (c .before .before .before .before .if2 .left), le-ltb _ _ (c .before .before .if3 .left))
+returns-4 c = simp (le-ltb _ _ (c .before .before .before .before .if1 .left), le-ltb _ _ (c .before .before .before .if2 .left), le-ltb _ _ (c .before .if3 .left))
 
 pub letter-spec : {M : Type 1} → statement M
 letter-spec =
@@ -46,6 +46,6 @@ letter-spec =
     returns-2
     ruined-requires-3
     returns-3
-    mul-t6
-    add-t8
+    mul-t5
+    add-t7
     returns-4)

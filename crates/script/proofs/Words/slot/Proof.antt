@@ -5,8 +5,8 @@ use Rattle.script.proofs.Words.slot.Tie as tie
 use Rattle.script.specs.Line.{slotCall}
 use borrow.Author.Tests.{eq-eqb, le-ltb, lt-ltb, ne-eqb}
 
-array-read-halfword : tie.Need-array-read-halfword
-array-read-halfword c = search needs
+element-copy-out-halfword : tie.Need-element-copy-out-halfword
+element-copy-out-halfword c = search needs
 
 returns : tie.Need-returns
 unfolding slotCall
@@ -24,4 +24,4 @@ unfolding slotCall
 returns-3 c = simp (le-ltb _ _ (c .before .before .if1 .left), ne-eqb _ _ (c .if2 .left))
 
 pub slot-spec : {M : Type 1} → statement M
-slot-spec = tie.close (tie.spec array-read-halfword returns cast-t8 returns-2 returns-3)
+slot-spec = tie.close (tie.spec element-copy-out-halfword returns cast-t8 returns-2 returns-3)

@@ -1,0 +1,64 @@
+-- Each part is as long as `least` says.
+use mathlib.Core.Path.{sym}
+use native.Mathlib.Omega.{arith}
+use lib.Seq.{length-take-le}
+use borrow.Author.Needs.{needs}
+use Rattle.replay.proofs.slots.Statement.{statement}
+use Rattle.replay.proofs.slots.Tie as tie
+
+zeros-requires : tie.Need-zeros-requires
+zeros-requires c κs = search needs
+
+zeros-requires-2 : tie.Need-zeros-requires-2
+zeros-requires-2 c κs = search needs
+
+least-requires : tie.Need-least-requires
+least-requires c κs = search needs
+
+least-requires-2 : tie.Need-least-requires-2
+least-requires-2 c κs = search needs
+
+least-requires-3 : tie.Need-least-requires-3
+least-requires-3 c κs = search needs
+
+slice-aggregate-run-slots : tie.Need-slice-aggregate-run-slots
+slice-aggregate-run-slots c = sym (length-take-le (c .before .before .before .least .result) (c .before .before .before .before .before .before .before .before .args .bus .now) (omega arith))
+
+array-borrow-prefix-command-row : tie.Need-array-borrow-prefix-command-row
+array-borrow-prefix-command-row c = search needs
+
+slice-aggregate-run-slots-2 : tie.Need-slice-aggregate-run-slots-2
+slice-aggregate-run-slots-2 c = sym (length-take-le (c .before .before .before .least2 .result) (c .before .before .before .before .before .before .zeros .result) (omega arith))
+
+array-borrow-prefix-report-row : tie.Need-array-borrow-prefix-report-row
+array-borrow-prefix-report-row c = search needs
+
+slice-aggregate-run-slots-3 : tie.Need-slice-aggregate-run-slots-3
+slice-aggregate-run-slots-3 c = sym (length-take-le (c .before .before .before .least3 .result) (c .before .before .before .before .before .before .zeros2 .result) (omega arith))
+
+run-slots-requires : tie.Need-run-slots-requires
+run-slots-requires c κs = search needs
+
+same-length : tie.Need-same-length
+same-length c = search needs
+
+returns : tie.Need-returns
+returns c = search needs
+
+pub slots-spec : {M : Type 1} → statement M
+slots-spec =
+    tie.close
+    (tie.spec
+    zeros-requires
+    zeros-requires-2
+    least-requires
+    least-requires-2
+    least-requires-3
+    slice-aggregate-run-slots
+    array-borrow-prefix-command-row
+    slice-aggregate-run-slots-2
+    array-borrow-prefix-report-row
+    slice-aggregate-run-slots-3
+    run-slots-requires
+    same-length
+    returns)
