@@ -1,7 +1,7 @@
 -- The slots that are left, from place i on: they give of the parts and arrays as they are what all slots give of them as they were at first.
 use Prim.Native.Nat.{ℕ, suc, _≤_, _<_}
 use native.Mathlib.Omega.{arith}
-use mathlib.Core.Path.{_≡_, refl, _∙_}
+use mathlib.Core.Path.{_≡_, refl}
 use mathlib.Core.List.{List, _∷_, _++_}
 use lib.ListN.{length, take, drop, set, getD, take-append-drop}
 use lib.Seq.{slice, slice-empty, slice-cons, take-suc-set, drop-set-lt, append-snoc}

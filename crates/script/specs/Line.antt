@@ -3,7 +3,7 @@ use Prim.Native.Nat.{ℕ, _+_, _-_, _*_}
 use mathlib.Core.Bool.{Bool, true, false, cond}
 use mathlib.Core.List.{List, [], _∷_}
 use lib.Dec.{ltb, leb, eqb}
-use lib.ListN.{getD, set, replicate}
+use lib.ListN.{getD, set}
 use Rattle.text.specs.Spelling.{letters}
 use Rattle.number.specs.Number.{none, numberOf, valueOf}
 use Rattle.number.specs.declared.Number.the-variants.{Empty, Wrong as NoNumber}

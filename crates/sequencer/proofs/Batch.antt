@@ -1,22 +1,20 @@
 -- Many slots by what those on the parts give.
-use Prim.Native.Nat.{ℕ, _≤_, _<_, min}
+use Prim.Native.Nat.{ℕ, _≤_, _<_}
 use native.Mathlib.Omega.{arith}
 use mathlib.Core.Path.{_≡_, refl, sym, subst, _∙_}
 use mathlib.Core.Bool.{Bool, true, false, cond}
 use mathlib.Core.List.{List, [], _∷_}
 use lib.Dec.{eqb}
-use lib.ListN.{length, take, drop}
-use borrow.Author.Tests.{eqb-true, eq-eqb}
-use Rattle.config.specs.Accepted.{Shaped}
+use lib.ListN.{length, take}
+use borrow.Author.Tests.{eqb-true}
 use Rattle.numbers.proofs.Laws as numbers
 use Rattle.turn.specs.Parts.{steppedOf}
 use Rattle.batch.specs.Run.{Ran, ranOf, filledOf}
 use Rattle.sequencer.specs.declared.Machine.{Machine}
-use Rattle.sequencer.specs.declared.Slot.{Slot}
 use Rattle.sequencer.specs.Machine.{machineWith, stepOf}
-use Rattle.sequencer.specs.Calls.{recordNumberOf, slotOf}
+use Rattle.sequencer.specs.Calls.{recordNumberOf}
 use Rattle.sequencer.specs.Batch.{Series, Batch, before, seriesOf, roomOf, batchOf, manySlotsOf}
-use Rattle.sequencer.proofs.Laws.{SoundFacts, slot-steps}
+use Rattle.sequencer.proofs.Laws.{slot-steps}
 use Rattle.sequencer.proofs.Sound.{record-facts, step-sound}
 
 -- a slot of a record with no number gives such a record

@@ -15,7 +15,6 @@ use Rattle.device.specs.History.{startLog}
 use Rattle.ages.proofs.Agree.{agrees-fresh}
 use Rattle.queue.specs.declared.Kind.{Kind}
 use Rattle.queue.specs.Places.{emptyOf}
-use Rattle.refresh.proofs.Counts as counts
 use Rattle.sequencer.specs.declared.Configured.{Configured}
 use Rattle.sequencer.specs.Calls.{configuredBy, configureOf}
 use Rattle.sequencer.specs.Machine.{blankOf, machineOf}

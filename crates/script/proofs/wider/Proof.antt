@@ -1,5 +1,4 @@
 -- The test decides.
-use borrow.Author.Needs.{needs}
 use Rattle.script.proofs.wider.Statement.{statement}
 use Rattle.script.proofs.wider.Tie as tie
 use Rattle.script.specs.Line.{wideOf}

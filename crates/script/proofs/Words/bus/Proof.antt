@@ -3,7 +3,7 @@ use borrow.Author.Needs.{needs}
 use Rattle.script.proofs.Words.bus.Statement.{statement}
 use Rattle.script.proofs.Words.bus.Tie as tie
 use Rattle.script.specs.Line.{busCall}
-use borrow.Author.Tests.{le-leb, le-ltb, lt-ltb}
+use borrow.Author.Tests.{le-ltb, lt-ltb}
 
 returns : tie.Need-returns
 unfolding busCall
