@@ -331,6 +331,10 @@ reading = serving (known true) (counted 9 0) false oneRead (CasLatency 0 2)
 abbrev writing : Machine
 writing = serving (known true) (counted 9 0) false (filled 1) Idle
 
+-- a refresh's REFR comes next, and then a WRT's row is opened
+abbrev refreshing : Machine
+refreshing = serving (known false) (counted 9 1) false (filled 1) Refresh
+
 abbrev three : List ℕ
 three = 5 ∷ 6 ∷ 7 ∷ []
 
@@ -342,6 +346,7 @@ many =
     ∷ manySlotsOf reading three three (8 ∷ 9 ∷ 10 ∷ 11 ∷ [])
     ∷ manySlotsOf writing three (8 ∷ 9 ∷ []) three
     ∷ manySlotsOf writing three three (8 ∷ [])
+    ∷ manySlotsOf refreshing three three three
     ∷ []
 
 shownMany : List (List (List ℕ))
@@ -352,6 +357,7 @@ shownMany =
     ∷ ((0 ∷ 3 ∷ []) ∷ (0 ∷ 0 ∷ 0 ∷ []) ∷ (0 ∷ 0x100060001 ∷ 0 ∷ 11 ∷ []) ∷ [])
     ∷ ((0 ∷ 2 ∷ []) ∷ (0x700000003 ∷ 0 ∷ []) ∷ (0x100000002 ∷ 0 ∷ 7 ∷ []) ∷ [])
     ∷ ((0 ∷ 1 ∷ []) ∷ (0x700000003 ∷ 6 ∷ 7 ∷ []) ∷ (0x100000002 ∷ []) ∷ [])
+    ∷ ((0 ∷ 3 ∷ []) ∷ (6 ∷ 0x10001 ∷ 0x700000003 ∷ []) ∷ (0 ∷ 0 ∷ 0x100000002 ∷ []) ∷ [])
     ∷ []
 
 -- `room`: a queue of eight that one request has left has room for one. `last`: the last number is given.
