@@ -3,7 +3,7 @@
  * register words; the plain SDRAM, the flat memory and the claims stay as they are. The self-test wants
  * each of them found. An ordinary build is SOUND, and every line below then has no effect.
  *
- * selftest.sh takes the names from the enum, one a line.
+ * damages.sh takes the names from the enum, one a line.
  */
 #ifndef DAMAGE_H
 #define DAMAGE_H

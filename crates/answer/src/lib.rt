@@ -47,7 +47,7 @@ pub enum Answer {
     Address(ToAddress),
     // How many halfwords wait.
     Bus(usize),
-    // And how many slots were made.
+    // And how many slots were run.
     Slots(u8, usize),
     // One of those slots: the words of its command and of its report.
     Packed(u64, u64),

@@ -3,3 +3,4 @@ pub mod Sdram
 pub mod Flat
 pub mod World
 pub mod Condition
+pub mod Along

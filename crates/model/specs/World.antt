@@ -98,7 +98,7 @@ abbrev pub usedOf : List ℕ → List ℕ → List ℕ → List ℕ
 usedOf bus commands reports = take (countOf bus commands reports) bus
 
 -- the array that it is handed: the halfwords that the bus carries in its slots, and behind them any. Every array that fits the SDRAM is handed as it is
--- (`along-own` of proofs/Along.antt)
+-- (`Along`)
 unfoldable pub handedOf : Config → World → List ℕ → List ℕ → List ℕ → List ℕ
 handedOf c w bus commands reports = busAlong c w (usedOf bus commands reports) ++ drop (countOf bus commands reports) bus
 

@@ -28,7 +28,7 @@ struct Scanned {
 struct Out {
     // How many bytes wait in the output buffer.
     waiting: usize,
-    // Has writing failed?
+    // Has reading or writing failed?
     failed: bool,
 }
 
@@ -233,11 +233,11 @@ fn changed(out: Out, word: u64, output: &mut [u8]) -> Out {
 }
 
 // Looks at the places beyond the first `count`. They are still 0: the contract of `slots` says so.
-fn beyond(out: Out, row: &[u64], count: usize, output: &mut [u8]) -> Out {
+fn beyond(out: Out, words: &[u64], count: usize, output: &mut [u8]) -> Out {
     let mut out = out;
     let mut i = count;
-    while i < row.len() {
-        out = changed(out, row[i], output);
+    while i < words.len() {
+        out = changed(out, words[i], output);
         i += 1;
     }
     out
@@ -257,7 +257,7 @@ fn tell(
     beyond(beyond(all, commands, count, output), reports, count, output)
 }
 
-// The call for many slots, on rows of zeros. After it no halfword waits.
+// The call for many slots, on arrays of zeros. After it no halfword waits.
 fn run_slots(
     run: Run,
     bus: &[u16],
@@ -292,16 +292,16 @@ fn zeros() -> [u64; 4096]
 
 // The call `slots`, with so many places for commands and for reports: 4,096 at most, as `script` has seen to.
 fn slots(run: Run, commands: u32, reports: u32, bus: &[u16], output: &mut [u8]) -> Run {
-    let mut command_row = zeros();
-    let mut report_row = zeros();
+    let mut command_words = zeros();
+    let mut report_words = zeros();
     let waiting = least(run.halfwords, bus.len());
     let c = least(commands as usize, 4096);
     let r = least(reports as usize, 4096);
     run_slots(
         run,
         &bus[..waiting],
-        &mut command_row[..c],
-        &mut report_row[..r],
+        &mut command_words[..c],
+        &mut report_words[..r],
         output,
     )
 }
@@ -389,13 +389,26 @@ fn over(run: Run) -> Run {
     after
 }
 
+// Nothing more can be read: the line under way is not played.
+fn broken(run: Run) -> Run {
+    os::fail(b"read");
+    let said = run.out;
+    let out = Out {
+        waiting: said.waiting,
+        failed: true,
+    };
+    let mut after = run;
+    after.out = out;
+    after.over = true;
+    after
+}
+
 // Reads once, plays what came and writes the lines.
 fn turn(run: Run, given: &mut [u32; NUMBERS], bus: &mut [u16], output: &mut [u8]) -> Run {
     let mut input = io::large_buffer();
     let got = libc::read(STDIN_FILENO, &mut input);
     if got < 0 {
-        os::fail(b"read");
-        return over(run);
+        return broken(run);
     }
     if got == 0 {
         return over(run);

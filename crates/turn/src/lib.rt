@@ -16,10 +16,11 @@ ghost use Rattle.plan.specs.Slot.{tickedOf};
 ghost use Rattle.packing.specs.Packing.{commandWord, reportWord};
 ghost use Rattle.turn.specs.Parts.{gathered, steppedOf, refusedOf, turnedOf};
 
-// What a slot gives, beside what it changes in place: its command and report, their words (docs/PACKING.md), and the machine's other parts after it.
+// What a slot gives, beside what it changes in place: its command and report, and the machine's other parts after it.
 pub struct Turned {
     pub command: Command,
     pub report: Report,
+    // The words of these two (docs/PACKING.md).
     pub sent: u64,
     pub told: u64,
     pub action: Action,
@@ -128,6 +129,7 @@ pub fn turn(
     requires { ⌜ (number ≡ 0 → Shaped (c .geometry)) ⌝ }
     requires { ⌜ (length (now ages) ≡ 16) × (length (now opened) ≡ 4) × (length (now rows) ≡ 4) ⌝ }
     ensures { λ r. ⌜ gathered (pastOf (now (ages .exit)) (now (opened .exit)) (now (rows .exit)) (now (programmed .exit))) (now (places .exit)) r ≡ turnedOf number c (pastOf (now (ages .entry)) (now (opened .entry)) (now (rows .entry)) (now (programmed .entry))) n (controlOf action must) (queueOf (now (places .entry)) count) bus ⌝ }
+    ensures { λ r. ⌜ (r .sent ≡ commandWord (r .command)) × (r .told ≡ reportWord (r .report)) ⌝ }
 {
     if number != 0 {
         return refused(count, n, action, must);

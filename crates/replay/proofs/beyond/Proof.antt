@@ -7,10 +7,10 @@ use Rattle.replay.proofs.beyond.Statement.{statement}
 use Rattle.replay.proofs.beyond.Tie as tie
 
 abbrev Inv-loop : tie.InvT-loop
-Inv-loop row count output₀ out₀ i₀ output out i = length output ≡ length output₀
+Inv-loop words count output₀ out₀ i₀ output out i = length output ≡ length output₀
 
 abbrev μ-loop : tie.MeasureT-loop
-μ-loop row count output₀ out₀ i₀ output out i = length row - i
+μ-loop words count output₀ out₀ i₀ output out i = length words - i
 
 loop-holds : tie.Need-loop-holds Inv-loop μ-loop
 loop-holds c = search needs

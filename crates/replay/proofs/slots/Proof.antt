@@ -24,14 +24,14 @@ least-requires-3 c κs = search needs
 slice-aggregate-run-slots : tie.Need-slice-aggregate-run-slots
 slice-aggregate-run-slots c = sym (length-take-le (c .before .before .before .least .result) (c .before .before .before .before .before .before .before .before .args .bus .now) (omega arith))
 
-array-borrow-prefix-command-row : tie.Need-array-borrow-prefix-command-row
-array-borrow-prefix-command-row c = search needs
+array-borrow-prefix-command-words : tie.Need-array-borrow-prefix-command-words
+array-borrow-prefix-command-words c = search needs
 
 slice-aggregate-run-slots-2 : tie.Need-slice-aggregate-run-slots-2
 slice-aggregate-run-slots-2 c = sym (length-take-le (c .before .before .before .least2 .result) (c .before .before .before .before .before .before .zeros .result) (omega arith))
 
-array-borrow-prefix-report-row : tie.Need-array-borrow-prefix-report-row
-array-borrow-prefix-report-row c = search needs
+array-borrow-prefix-report-words : tie.Need-array-borrow-prefix-report-words
+array-borrow-prefix-report-words c = search needs
 
 slice-aggregate-run-slots-3 : tie.Need-slice-aggregate-run-slots-3
 slice-aggregate-run-slots-3 c = sym (length-take-le (c .before .before .before .least3 .result) (c .before .before .before .before .before .before .zeros2 .result) (omega arith))
@@ -55,9 +55,9 @@ slots-spec =
     least-requires-2
     least-requires-3
     slice-aggregate-run-slots
-    array-borrow-prefix-command-row
+    array-borrow-prefix-command-words
     slice-aggregate-run-slots-2
-    array-borrow-prefix-report-row
+    array-borrow-prefix-report-words
     slice-aggregate-run-slots-3
     run-slots-requires
     same-length

@@ -37,7 +37,7 @@ with-parts-requires c κs = search needs
 returns : tie.Need-returns
 returns c =
     let at-turn = c .before .before in
-    rw (c .with-parts .ensures) (slot-is _ _ (at-turn .before .before .before .before .before .before .record-number .ensures _ _ _) (at-turn .turn .ensures))
+    rw (c .with-parts .ensures) (slot-is _ _ (at-turn .before .before .before .before .before .before .record-number .ensures _ _ _) (at-turn .turn .ensures .0))
 
 pub slot-spec : {M : Type 1} → statement M
 slot-spec = tie.close (tie.spec accepted-requires record-number-requires turn-requires with-parts-requires returns)
