@@ -27,8 +27,18 @@ enum { CAP = 33, PLACES = 8, BANKS = 4 };
 enum { COLUMNS = 8, BANK_BITS = 2, ROWS = 13, CL = 3, RFC = 9, RP = 3, RCD = 3, WR = 2, RAS = 6, RC = 9, RRD = 2, RR = 136 };
 
 typedef enum { NOP, ACT, READ, WRT, PRE, DEAC, REFR, MRS } Kind;
+#ifdef MANY
+/* Words (docs/PACKING.md), stored where the command is known. */
+typedef uint64_t Command;
+typedef uint64_t Report;
+#define COMMAND(kind, bank, place, halfword) ((uint64_t)(kind) | (uint64_t)(bank) << 8 | (uint64_t)(place) << 16 | (uint64_t)(halfword) << 32)
+#define REPORT(kind, number, halfword) ((uint64_t)(kind) | (uint64_t)(halfword) << 16 | (uint64_t)(number) << 32)
+#else
 typedef struct { Kind kind; uint8_t bank; uint16_t place; uint16_t halfword; } Command;
 typedef struct { uint8_t kind; uint32_t number; uint16_t halfword; } Report; /* 0 nothing, 1 read, 2 write */
+#define COMMAND(kind, bank, place, halfword) ((Command){ kind, bank, place, halfword })
+#define REPORT(kind, number, halfword) ((Report){ kind, number, halfword })
+#endif
 
 /* The row of ages: how many slots ago ACT, PRE (or DEAC) and WRT went to each bank, and REFR, PRE or DEAC, and READ to any. None is needed for
    MRS, since a NOP always follows it; the last byte is spare. */
@@ -90,13 +100,13 @@ static void close_all(Machine *m, Command *out)
 {
     for (int b = 0; b < BANKS; b++) { m->open[b] = false; m->age[PRE_AGE + b] = 1; }
     m->age[CLOSE_AGE] = 1;
-    *out = (Command){ DEAC, 0, 0, 0 };
+    *out = COMMAND(DEAC, 0, 0, 0);
 }
 
 static void refresh(Machine *m, Command *out)
 {
     m->age[REFR_AGE] = 1;
-    *out = (Command){ REFR, 0, 0, 0 };
+    *out = COMMAND(REFR, 0, 0, 0);
 }
 
 static bool blocked(const Machine *m, uint32_t at)
@@ -141,24 +151,24 @@ static void access_slot(Machine *m, Command *out, Report *report)
         m->open[bank] = true;
         m->row[bank] = r->row;
         m->age[ACT_AGE + bank] = 1;
-        *out = (Command){ ACT, r->bank, r->row, 0 };
+        *out = COMMAND(ACT, r->bank, r->row, 0);
     } else if (m->row[bank] != r->row) {
         if (!may_close(m, bank)) return;
         m->open[bank] = false;
         m->age[PRE_AGE + bank] = 1;
         m->age[CLOSE_AGE] = 1;
-        *out = (Command){ PRE, r->bank, 0, 0 };
+        *out = COMMAND(PRE, r->bank, 0, 0);
     } else if (m->age[ACT_AGE + bank] <= m->rcd) {
         return;
     } else if (!r->write) {
         m->age[READ_AGE] = 1;
-        *out = (Command){ READ, r->bank, r->column, 0 };
+        *out = COMMAND(READ, r->bank, r->column, 0);
         m->action = DATA;
         m->left = m->cl;
     } else if (m->age[READ_AGE] > m->cl + 2) {
         m->age[WRT_AGE + bank] = 1;
-        *out = (Command){ WRT, r->bank, r->column, r->halfword };
-        *report = (Report){ 2, r->number, 0 };
+        *out = COMMAND(WRT, r->bank, r->column, r->halfword);
+        *report = REPORT(2, r->number, 0);
         remove_at(m, m->at);
         m->action = IDLE;
     }
@@ -175,7 +185,7 @@ static void service_slot(Machine *m, uint16_t bus, Command *out, Report *report)
     case ACCESS: access_slot(m, out, report); break;
     case DATA:
         if (--m->left > 0) break;
-        *report = (Report){ 1, m->place[m->at].number, bus };
+        *report = REPORT(1, m->place[m->at].number, bus);
         remove_at(m, m->at);
         m->action = TURN;
         break;
@@ -209,7 +219,7 @@ static void start_slot(Machine *m, Command *out)
         break;
     case MODE:
         if (!may_refresh(m)) break;
-        *out = (Command){ MRS, 0, (uint16_t)(16 * m->cl), 0 };
+        *out = COMMAND(MRS, 0, (uint16_t)(16 * m->cl), 0);
         m->stage = SETTLE;
         break;
     default: m->stage = DONE; break;
@@ -218,8 +228,8 @@ static void start_slot(Machine *m, Command *out)
 
 static int slot(Machine *m, uint16_t bus, Command *out, Report *report)
 {
-    *report = (Report){ 0, 0, 0 };
-    *out = (Command){ NOP, 0, 0, 0 };
+    *report = REPORT(0, 0, 0);
+    *out = COMMAND(NOP, 0, 0, 0);
     older(m);
     if (m->stage == DONE) service_slot(m, bus, out, report);
     else start_slot(m, out);
@@ -260,10 +270,6 @@ static uint32_t mix(uint32_t h, uint32_t v) { return shuffle(h ^ v); }
 #ifdef MANY
 enum { LENGTH = 64 };
 
-static uint64_t command_word(Command k) { return (uint64_t)k.kind | (uint64_t)k.bank << 8 | (uint64_t)k.place << 16 | (uint64_t)k.halfword << 32; }
-
-static uint64_t report_word(Report r) { return (uint64_t)r.kind | (uint64_t)r.halfword << 16 | (uint64_t)r.number << 32; }
-
 static bool outside(unsigned low, unsigned high, unsigned n) { return n < low || high < n; }
 
 /* The test for 9: the configuration, the counters, the stage or the action with its place and its count, and the queue's count. */
@@ -296,13 +302,7 @@ static int slots(Machine *m, const uint16_t *bus, size_t buses, uint64_t *comman
     if (!sound(m)) return 9;
     size_t n = buses < places ? buses : places;
     if (rooms < n) n = rooms;
-    for (size_t i = 0; i < n; i++) {
-        Command k;
-        Report r;
-        slot(m, bus[i], &k, &r);
-        commands[i] = command_word(k);
-        reports[i] = report_word(r);
-    }
+    for (size_t i = 0; i < n; i++) slot(m, bus[i], &commands[i], &reports[i]);
     *count = n;
     return 0;
 }
