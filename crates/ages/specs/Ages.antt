@@ -38,18 +38,18 @@ pastOf ages opened rows programmed = record { ages = ages; opened = opened; rows
 unfoldable pub freshOf : Past
 freshOf = pastOf (replicate 16 cap) (replicate 4 false) (replicate 4 0) false
 
--- the place of the age that a distance is read off: ACT of the four banks, PRE or DEAC of them, WRT to them, REFR, MRS, any PRE or DEAC, READ
+-- the place of the age that a distance is read off: ACT of the four banks, PRE or DEAC of them, REFR, MRS, any PRE or DEAC, READ, WRT to the four banks
 abbrev pub placeOf : Distance → ℕ
 placeOf (rowCycle b) = b
 placeOf (rowToRow b) = b
 placeOf (rowToColumn b) = b
 placeOf (rowActive b) = b
 placeOf (rowPrecharge b) = 4 + b
-placeOf (writeRecovery b) = 8 + b
-placeOf refreshCycle = 12
-placeOf modeRegister = 13
-placeOf anyPrecharge = 14
-placeOf readToWrite = 15
+placeOf refreshCycle = 8
+placeOf modeRegister = 9
+placeOf anyPrecharge = 10
+placeOf readToWrite = 11
+placeOf (writeRecovery b) = 12 + b
 
 abbrev pub ageOf : Past → Distance → ℕ
 ageOf p d = getD (p .ages) (placeOf d) 0
@@ -81,8 +81,8 @@ unfoldable pub agesAfter : List ℕ → Command → List ℕ
 agesAfter a k =
     at 0 (rowCycle 0) ∷ at 1 (rowCycle 1) ∷ at 2 (rowCycle 2) ∷ at 3 (rowCycle 3)
     ∷ at 4 (rowPrecharge 0) ∷ at 5 (rowPrecharge 1) ∷ at 6 (rowPrecharge 2) ∷ at 7 (rowPrecharge 3)
-    ∷ at 8 (writeRecovery 0) ∷ at 9 (writeRecovery 1) ∷ at 10 (writeRecovery 2) ∷ at 11 (writeRecovery 3)
-    ∷ at 12 refreshCycle ∷ at 13 modeRegister ∷ at 14 anyPrecharge ∷ at 15 readToWrite
+    ∷ at 8 refreshCycle ∷ at 9 modeRegister ∷ at 10 anyPrecharge ∷ at 11 readToWrite
+    ∷ at 12 (writeRecovery 0) ∷ at 13 (writeRecovery 1) ∷ at 14 (writeRecovery 2) ∷ at 15 (writeRecovery 3)
     ∷ []
   where
     at : ℕ → Distance → ℕ

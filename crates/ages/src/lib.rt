@@ -12,8 +12,8 @@ ghost use Rattle.ages.specs.Ages.{freshOf, openIn, rowIn, openRows};
 pub const CAP: u8 = 32;
 
 // What is kept of the past commands. An age is in slots, as the next slot sees it: 1 after the command's own slot, 32 at most, and 32 if
-// there was none. The ages: ACT of each bank, its PRE or any DEAC, WRT to it; then REFR, MRS, any PRE or DEAC, READ. They, the flags and the rows
-// are arrays of numbers and bools, which can be lent, so that a slot changes them in place.
+// there was none. The ages: ACT of each bank; its PRE or any DEAC; REFR, MRS, any PRE or DEAC, READ; WRT to each bank (docs/PERFORMANCE.md: the order
+// counts). They, the flags and the rows are arrays of numbers and bools, which can be lent, so that a slot changes them in place.
 pub struct Past {
     pub ages: [u8; 16],
     // Is the bank open, and with which row?

@@ -15,18 +15,18 @@ atBank l from b x = cond (ltb b 4) (set l (from + b) x) l
 
 -- the ages that a DEAC starts
 abbrev pub precharged : List ℕ → List ℕ
-precharged a = set (set (set (set (set a 4 0) 5 0) 6 0) 7 0) 14 0
+precharged a = set (set (set (set (set a 4 0) 5 0) 6 0) 7 0) 10 0
 
 -- What a command starts, at age 0: the ages, the open flags, the rows, and whether the mode is set.
 unfoldable pub notedAges : Command → List ℕ → List ℕ
 notedAges Nop a = a
 notedAges (Act b r) a = atBank a 0 (b .0) 0
-notedAges (Read b k) a = set a 15 0
-notedAges (Wrt b k x) a = atBank a 8 (b .0) 0
-notedAges (Pre b) a = atBank (set a 14 0) 4 (b .0) 0
+notedAges (Read b k) a = set a 11 0
+notedAges (Wrt b k x) a = atBank a 12 (b .0) 0
+notedAges (Pre b) a = atBank (set a 10 0) 4 (b .0) 0
 notedAges Deac a = precharged a
-notedAges Refr a = set a 12 0
-notedAges (Mrs w) a = set a 13 0
+notedAges Refr a = set a 8 0
+notedAges (Mrs w) a = set a 9 0
 
 unfoldable pub notedOpen : Command → List Bool → List Bool
 notedOpen Nop o = o

@@ -55,25 +55,25 @@ pub fn note_act(
 }
 
 pub fn note_read(ages: &mut [u8; 16])
-    ensures { λ _. ⌜ now (ages .exit) ≡ set (now (ages .entry)) 15 0 ⌝ }
+    ensures { λ _. ⌜ now (ages .exit) ≡ set (now (ages .entry)) 11 0 ⌝ }
 {
-    ages[15] = 0;
+    ages[11] = 0;
 }
 
 pub fn note_wrt(ages: &mut [u8; 16], bank: Bank)
-    ensures { λ _. ⌜ now (ages .exit) ≡ atBank (now (ages .entry)) 8 (bank .0) 0 ⌝ }
+    ensures { λ _. ⌜ now (ages .exit) ≡ atBank (now (ages .entry)) 12 (bank .0) 0 ⌝ }
 {
     let b = bank.0 as usize;
     if b < 4 {
-        ages[8 + b] = 0;
+        ages[12 + b] = 0;
     }
 }
 
 // A PRE starts R15's distance, too, whatever its bank.
 pub fn note_pre(ages: &mut [u8; 16], opened: &mut [bool; 4], bank: Bank)
-    ensures { λ _. ⌜ (now (ages .exit) ≡ atBank (set (now (ages .entry)) 14 0) 4 (bank .0) 0) × (now (opened .exit) ≡ atBank (now (opened .entry)) 0 (bank .0) false) ⌝ }
+    ensures { λ _. ⌜ (now (ages .exit) ≡ atBank (set (now (ages .entry)) 10 0) 4 (bank .0) 0) × (now (opened .exit) ≡ atBank (now (opened .entry)) 0 (bank .0) false) ⌝ }
 {
-    ages[14] = 0;
+    ages[10] = 0;
     let b = bank.0 as usize;
     if b < 4 {
         ages[4 + b] = 0;
@@ -88,19 +88,19 @@ pub fn note_deac(ages: &mut [u8; 16], opened: &mut [bool; 4])
     ages[5] = 0;
     ages[6] = 0;
     ages[7] = 0;
-    ages[14] = 0;
+    ages[10] = 0;
     *opened = [false; 4];
 }
 
 pub fn note_refr(ages: &mut [u8; 16])
-    ensures { λ _. ⌜ now (ages .exit) ≡ set (now (ages .entry)) 12 0 ⌝ }
+    ensures { λ _. ⌜ now (ages .exit) ≡ set (now (ages .entry)) 8 0 ⌝ }
 {
-    ages[12] = 0;
+    ages[8] = 0;
 }
 
 pub fn note_mrs(ages: &mut [u8; 16], programmed: &mut bool)
-    ensures { λ _. ⌜ (now (ages .exit) ≡ set (now (ages .entry)) 13 0) × (now (programmed .exit) ≡ true) ⌝ }
+    ensures { λ _. ⌜ (now (ages .exit) ≡ set (now (ages .entry)) 9 0) × (now (programmed .exit) ≡ true) ⌝ }
 {
-    ages[13] = 0;
+    ages[9] = 0;
     *programmed = true;
 }

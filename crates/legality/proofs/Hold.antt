@@ -36,9 +36,9 @@ true-and e x = rw e
 
 module _ (c : Config) (p : Past) where
   -- R2's two come first
-  settled-first : (t : Bool) → (leb (c .rfc) (getD (p .ages) 12 0) && (leb 2 (getD (p .ages) 13 0) && t)) ≡ (settledOf c (p .ages) && t)
+  settled-first : (t : Bool) → (leb (c .rfc) (getD (p .ages) 8 0) && (leb 2 (getD (p .ages) 9 0) && t)) ≡ (settledOf c (p .ages) && t)
   unfolding settledOf
-  settled-first t = go (leb (c .rfc) (getD (p .ages) 12 0)) (leb 2 (getD (p .ages) 13 0))
+  settled-first t = go (leb (c .rfc) (getD (p .ages) 8 0)) (leb 2 (getD (p .ages) 9 0))
     where
       go : (x y : Bool) → (x && (y && t)) ≡ ((x && y) && t)
       go true true = refl
@@ -55,10 +55,10 @@ module _ (c : Config) (p : Past) where
   R12-is = rw (open-here (p .opened) (p .rows) 0 (lit< tt), open-here (p .opened) (p .rows) 1 (lit< tt), open-here (p .opened) (p .rows) 2 (lit< tt), open-here (p .opened) (p .rows) 3 (lit< tt))
 
   pub R13-is : allHold (R13-open (byAges c p))
-      ≡ ((not (getD (p .opened) 0 false) || leb (c .wr) (getD (p .ages) 8 0))
-      && ((not (getD (p .opened) 1 false) || leb (c .wr) (getD (p .ages) 9 0))
-      && ((not (getD (p .opened) 2 false) || leb (c .wr) (getD (p .ages) 10 0))
-      && ((not (getD (p .opened) 3 false) || leb (c .wr) (getD (p .ages) 11 0)) && true))))
+      ≡ ((not (getD (p .opened) 0 false) || leb (c .wr) (getD (p .ages) 12 0))
+      && ((not (getD (p .opened) 1 false) || leb (c .wr) (getD (p .ages) 13 0))
+      && ((not (getD (p .opened) 2 false) || leb (c .wr) (getD (p .ages) 14 0))
+      && ((not (getD (p .opened) 3 false) || leb (c .wr) (getD (p .ages) 15 0)) && true))))
   unfolding R13-open
   R13-is = rw (open-here (p .opened) (p .rows) 0 (lit< tt), open-here (p .opened) (p .rows) 1 (lit< tt), open-here (p .opened) (p .rows) 2 (lit< tt), open-here (p .opened) (p .rows) 3 (lit< tt))
 
@@ -81,16 +81,16 @@ module _ (c : Config) (p : Past) where
 
   -- a WRT's rules are a READ's and R10, whatever its halfword
   pub wrt-is : (b : Bank) (k : Column) (x : ℕ) → legalOf c (byAges c p) (Wrt b k x)
-      ≡ (legalOf c (byAges c p) (Read b k) && leb (c .latency + 2) (getD (p .ages) 15 0))
+      ≡ (legalOf c (byAges c p) (Read b k) && leb (c .latency + 2) (getD (p .ages) 11 0))
   unfolding legalOf requirements
-  wrt-is b k x = rw (hold-append (requirements c (byAges c p) (Read b k)) (R10 (byAges c p) ∷ []), and-true (leb (c .latency + 2) (getD (p .ages) 15 0)))
+  wrt-is b k x = rw (hold-append (requirements c (byAges c p) (Read b k)) (R10 (byAges c p) ∷ []), and-true (leb (c .latency + 2) (getD (p .ages) 11 0)))
 
   pub wrt-any : (b : Bank) (k : Column) (x y : ℕ) → legalOf c (byAges c p) (Wrt b k x) ≡ legalOf c (byAges c p) (Wrt b k y)
   wrt-any b k x y = wrt-is b k x ∙ sym (wrt-is b k y)
 
   pub pre-is : (b : Bank) → legalOf c (byAges c p) (Pre b)
       ≡ (ltb (b .0) (2 ^ (c .geometry .banks)) && (settledOf c (p .ages) && (isSome (rowAt p (b .0))
-      && (leb (c .ras) (getD (p .ages) (b .0) 0) && (leb (c .wr) (getD (p .ages) (8 + b .0) 0) && true)))))
+      && (leb (c .ras) (getD (p .ages) (b .0) 0) && (leb (c .wr) (getD (p .ages) (12 + b .0) 0) && true)))))
   unfolding legalOf requirements
   pre-is b = rw settled-first
 
@@ -98,7 +98,7 @@ module _ (c : Config) (p : Past) where
   unfolding legalOf requirements
   deac-is = rw (settled-first, hold-append (R12-open (byAges c p)))
 
-  pub refr-is : legalOf c (byAges c p) Refr ≡ (settledOf c (p .ages) && (allClosed (rowAt p) && (leb (c .rp) (getD (p .ages) 14 0) && true)))
+  pub refr-is : legalOf c (byAges c p) Refr ≡ (settledOf c (p .ages) && (allClosed (rowAt p) && (leb (c .rp) (getD (p .ages) 10 0) && true)))
   unfolding legalOf requirements
   refr-is = rw (settled-first, hold-append (R14 (byAges c p)), R14-is)
 

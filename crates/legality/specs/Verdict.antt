@@ -16,4 +16,4 @@ Verdict c ages opened k verdict = (rows : List ℕ) (programmed : Bool) → verd
 
 -- R2, as the code tests it: the last REFR and the last MRS are far enough back
 unfoldable pub settledOf : Config → List ℕ → Bool
-settledOf c ages = leb (c .rfc) (getD ages 12 0) && leb 2 (getD ages 13 0)
+settledOf c ages = leb (c .rfc) (getD ages 8 0) && leb 2 (getD ages 9 0)

@@ -27,10 +27,10 @@ fn inside(n: u16, width: u8) -> bool
 fn settled(c: Config, ages: &[u8; 16]) -> bool
     ensures { λ r. ⌜ r ≡ settledOf c (now (ages .entry)) ⌝ }
 {
-    if ages[12] < c.rfc {
+    if ages[8] < c.rfc {
         return false;
     }
-    if ages[13] < 2 {
+    if ages[9] < 2 {
         return false;
     }
     true
@@ -98,16 +98,16 @@ fn all_active(c: Config, ages: &[u8; 16], opened: &[bool; 4]) -> bool
 fn all_written(c: Config, ages: &[u8; 16], opened: &[bool; 4]) -> bool
     ensures { λ r. ⌜ ((rows : List ℕ) (programmed : Bool) → r ≡ allHold (R13-open (byAges c (pastOf (now (ages .entry)) (now (opened .entry)) rows programmed)))) ⌝ }
 {
-    if !free(opened[0], ages[8], c.wr) {
+    if !free(opened[0], ages[12], c.wr) {
         return false;
     }
-    if !free(opened[1], ages[9], c.wr) {
+    if !free(opened[1], ages[13], c.wr) {
         return false;
     }
-    if !free(opened[2], ages[10], c.wr) {
+    if !free(opened[2], ages[14], c.wr) {
         return false;
     }
-    if !free(opened[3], ages[11], c.wr) {
+    if !free(opened[3], ages[15], c.wr) {
         return false;
     }
     true
@@ -195,7 +195,7 @@ pub fn wrt_legal(c: Config, ages: &[u8; 16], opened: &[bool; 4], bank: Bank, col
     if !read_legal(c, ages, opened, bank, column) {
         return false;
     }
-    read_to_write(ages[15], c.latency)
+    read_to_write(ages[11], c.latency)
 }
 
 // PRE: R1, R2, R11, R12, R13.
@@ -216,7 +216,7 @@ pub fn pre_legal(c: Config, ages: &[u8; 16], opened: &[bool; 4], bank: Bank) -> 
     if ages[b] < c.ras {
         return false;
     }
-    if ages[8 + b] < c.wr {
+    if ages[12 + b] < c.wr {
         return false;
     }
     true
@@ -245,7 +245,7 @@ pub fn refr_legal(c: Config, ages: &[u8; 16], opened: &[bool; 4]) -> bool
     if !ages::all_closed(opened) {
         return false;
     }
-    if ages[14] < c.rp {
+    if ages[10] < c.rp {
         return false;
     }
     true

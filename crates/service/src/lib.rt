@@ -145,22 +145,24 @@ fn read(c: Config, ages: &mut [u8; 16], opened: &[bool; 4], i: u16, cell: Cell) 
     rest(Action::Access(i))
 }
 
-// The WRT for the request r at place i.
+// The WRT for the request at place i with this cell. Its number and halfword are read only where they are sent: held from the start of an access, they cost in
+// each of its slots.
 fn write(
     c: Config,
     ages: &mut [u8; 16],
     opened: &[bool; 4],
+    places: &[u32; 24],
     i: u16,
-    r: Request,
     cell: Cell,
 ) -> Carried
     requires { ⌜ Shaped (c .geometry) ⌝ }
-    ensures { λ e. ⌜ ConductedBy c (now (ages .entry)) (now (opened .entry)) (now (ages .exit)) (now (opened .entry)) (writePlan i r cell) e ⌝ }
+    ensures { λ e. ⌜ ConductedBy c (now (ages .entry)) (now (opened .entry)) (now (ages .exit)) (now (opened .entry)) (writePlan i (requestAt (now (places .entry)) i) cell) e ⌝ }
 {
     let bank = cell.bank;
     let column = cell.column;
     if legality::wrt_legal(c, ages, opened, bank, column) {
         aging::note_wrt(ages, bank);
+        let r = places::request_at(places, i);
         return Carried {
             command: Command::Wrt(bank, column, r.halfword),
             action: Action::Idle,
@@ -177,17 +179,17 @@ fn transfer(
     c: Config,
     ages: &mut [u8; 16],
     opened: &[bool; 4],
+    places: &[u32; 24],
     i: u16,
-    r: Request,
     cell: Cell,
 ) -> Carried
     requires { ⌜ Shaped (c .geometry) ⌝ }
-    ensures { λ e. ⌜ ConductedBy c (now (ages .entry)) (now (opened .entry)) (now (ages .exit)) (now (opened .entry)) (transferPlan c i r cell (r .kind)) e ⌝ }
+    ensures { λ e. ⌜ ConductedBy c (now (ages .entry)) (now (opened .entry)) (now (ages .exit)) (now (opened .entry)) (transferPlan c i (requestAt (now (places .entry)) i) cell (requestAt (now (places .entry)) i .kind)) e ⌝ }
 {
-    let kind = r.kind;
+    let kind = places::request_at(places, i).kind;
     match kind {
         Kind::Read => read(c, ages, opened, i, cell),
-        Kind::Write => write(c, ages, opened, i, r, cell),
+        Kind::Write => write(c, ages, opened, places, i, cell),
     }
 }
 
@@ -231,19 +233,19 @@ fn access_to(
     opened: &mut [bool; 4],
     rows: &mut [u16; 4],
     programmed: bool,
+    places: &[u32; 24],
     i: u16,
-    r: Request,
     cell: Cell,
 ) -> Carried
     requires { ⌜ Shaped (c .geometry) ⌝ }
-    ensures { λ e. ⌜ Conducted c (pastOf (now (ages .entry)) (now (opened .entry)) (now (rows .entry)) programmed) (pastOf (now (ages .exit)) (now (opened .exit)) (now (rows .exit)) programmed) (accessPlan c (openRows (now (opened .entry)) (now (rows .entry)) (cell .bank .0)) i r cell) e ⌝ }
+    ensures { λ e. ⌜ Conducted c (pastOf (now (ages .entry)) (now (opened .entry)) (now (rows .entry)) programmed) (pastOf (now (ages .exit)) (now (opened .exit)) (now (rows .exit)) programmed) (accessPlan c (openRows (now (opened .entry)) (now (rows .entry)) (cell .bank .0)) i (requestAt (now (places .entry)) i) cell) e ⌝ }
 {
     let bank = cell.bank;
     let row = cell.row;
     if ages::is_open(opened, bank) {
         let open_row = ages::row_in(rows, bank);
         if open_row.0 == row.0 {
-            return transfer(c, ages, opened, i, r, cell);
+            return transfer(c, ages, opened, places, i, cell);
         }
         return precharge(c, ages, opened, i, bank);
     }
@@ -263,10 +265,10 @@ fn access(
     requires { ⌜ Shaped (c .geometry) ⌝ }
     ensures { λ e. ⌜ Conducted c (pastOf (now (ages .entry)) (now (opened .entry)) (now (rows .entry)) programmed) (pastOf (now (ages .exit)) (now (opened .exit)) (now (rows .exit)) programmed) (planOf c (byAges c (pastOf (now (ages .entry)) (now (opened .entry)) (now (rows .entry)) programmed)) (requestAt (now (places .entry)) i) (Access i) 0) e ⌝ }
 {
-    let r = places::request_at(places, i);
+    let asked = places::request_at(places, i);
     let geometry = c.geometry;
-    let cell = r.cell(geometry);
-    access_to(c, ages, opened, rows, programmed, i, r, cell)
+    let cell = asked.cell(geometry);
+    access_to(c, ages, opened, rows, programmed, places, i, cell)
 }
 
 // DEAC, and then `next`; until it is legal, `stays`.

@@ -10,7 +10,7 @@ ghost use lib.ListN.{length};
 ghost use Rattle.config.specs.Accepted.{Shaped};
 ghost use Rattle.ages.specs.Ages.{pastOf};
 ghost use Rattle.queue.specs.Places.{queueOf};
-ghost use Rattle.plan.specs.Actions.{controlOf};
+ghost use Rattle.plan.specs.Actions.{controlOf, underWay};
 ghost use Rattle.plan.specs.Plan.{queueAfter};
 ghost use Rattle.plan.specs.Slot.{tickedOf};
 ghost use Rattle.packing.specs.Packing.{commandWord, reportWord};
@@ -39,12 +39,12 @@ fn ticked(c: Config, n: Counters, action: Action) -> Counters
     n
 }
 
-// The request at place `at` may leave the queue. It gives the count after it.
-fn queue_after(places: &mut [u32; 24], count: u32, at: u16, leaves: bool) -> u32
-    ensures { λ r. ⌜ queueOf (now (places .exit)) r ≡ queueAfter (queueOf (now (places .entry)) count) at leaves ⌝ }
+// The request of an action may leave the queue. It gives the count after it.
+fn queue_after(places: &mut [u32; 24], count: u32, action: Action, leaves: bool) -> u32
+    ensures { λ r. ⌜ queueOf (now (places .exit)) r ≡ queueAfter (queueOf (now (places .entry)) count) (underWay action) leaves ⌝ }
 {
     if leaves {
-        return places::remove(places, count, at);
+        return places::remove(places, count, actions::place(action));
     }
     count
 }
@@ -77,9 +77,8 @@ pub fn step(
     // Here, where the compiler still knows which command it is; a caller that does not use the words does not pay for them.
     let sent = packing::pack_command(command);
     let told = packing::pack_report(report);
-    let at = actions::place(current);
     let counters = service::counters_after(ticked, carried.refreshes);
-    let left = queue_after(places, count, at, carried.leaves);
+    let left = queue_after(places, count, current, carried.leaves);
     aging::elapse(ages);
     let next = carried.action;
     Turned {

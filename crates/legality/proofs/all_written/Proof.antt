@@ -11,7 +11,7 @@ use Rattle.legality.proofs.Hold.{R13-is, passed, failed}
 
 -- what bank n has to keep
 abbrev Kept : tie.Start → ℕ → Type 0
-Kept s n = (not (getD (s .args .opened .now) n false) || leb (s .args .c .wr) (getD (s .args .ages .now) (8 + n) 0)) ≡ true
+Kept s n = (not (getD (s .args .opened .now) n false) || leb (s .args .c .wr) (getD (s .args .ages .now) (12 + n) 0)) ≡ true
 
 abbrev Kept2 : tie.Start → Type 0
 Kept2 s = Kept s 0 × Kept s 1

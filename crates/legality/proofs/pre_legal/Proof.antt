@@ -33,7 +33,7 @@ abbrev Left : tie.Start → Type 0
 Left s =
     Verdict (s .args .c) (s .args .ages .now) (s .args .opened .now) (Pre (s .args .bank))
     (flag s && (leb (s .args .c .ras) (getD (s .args .ages .now) (s .args .bank .0) 0)
-    && (leb (s .args .c .wr) (getD (s .args .ages .now) (8 + s .args .bank .0) 0) && true)))
+    && (leb (s .args .c .wr) (getD (s .args .ages .now) (12 + s .args .bank .0) 0) && true)))
 
 left : (c : tie.Else2) → Left (start c)
 left c rows programmed =

@@ -15,7 +15,9 @@ access-to-requires c κs = search needs
 
 returns : tie.Need-returns
 unfolding planOf
-returns c = rw (← c .before .before .before .before .before .before .request-at .ensures, ← c .before .before .before .before .cell .ensures) (c .access-to .ensures)
+returns c =
+    let asked = c .before .before .before .before .before .before .request-at .ensures in
+    rw (← asked, ← c .before .before .before .before .cell .ensures, asked) (c .access-to .ensures)
 
 pub access-spec : {M : Type 1} → statement M
 access-spec = tie.close (tie.spec request-at-requires cell-requires access-to-requires returns)

@@ -23,16 +23,22 @@ note-wrt-requires : tie.Need-note-wrt-requires
 note-wrt-requires c κs = search needs
 
 -- the halfword doesn't matter
-any : (s : tie.Start) (rows : List ℕ) (programmed : Bool) → let x = s .args in let v = byAges (x .c) (pastOf (now (x .ages)) (now (x .opened)) rows programmed) in
-    legalOf (x .c) v (Wrt (x .cell .bank) (x .cell .column) (x .r .halfword)) ≡ legalOf (x .c) v (Wrt (x .cell .bank) (x .cell .column) 0)
-any s rows programmed =
+any : (s : tie.Start) (h : ℕ) (rows : List ℕ) (programmed : Bool) → let x = s .args in let v = byAges (x .c) (pastOf (now (x .ages)) (now (x .opened)) rows programmed) in
+    legalOf (x .c) v (Wrt (x .cell .bank) (x .cell .column) h) ≡ legalOf (x .c) v (Wrt (x .cell .bank) (x .cell .column) 0)
+any s h rows programmed =
     let x = s .args in
-    wrt-any (x .c) (pastOf (now (x .ages)) (now (x .opened)) rows programmed) (x .cell .bank) (x .cell .column) (x .r .halfword) 0
+    wrt-any (x .c) (pastOf (now (x .ages)) (now (x .opened)) rows programmed) (x .cell .bank) (x .cell .column) h 0
+
+request-at-requires : tie.Need-request-at-requires
+request-at-requires c κs = search needs
 
 returns : tie.Need-returns
 unfolding writePlan carriedWith notedOf notedAges notedOpen notedRows notedMode
 returns c rows programmed =
-    sent (any (c .before .before .before .before .before .before .before) rows programmed ∙ sym (c .before .before .before .wrt-legal .ensures rows programmed) ∙ c .before .before .if1 .taken) refl (rw (c .note-wrt .ensures))
+    let at-note = c .before in
+    let at-test = at-note .before .before .before in
+    rw (← c .request-at .ensures)
+    (sent (any (at-test .before .before .before .before) _ rows programmed ∙ sym (at-test .wrt-legal .ensures rows programmed) ∙ at-note .before .before .if1 .taken) refl (rw (at-note .note-wrt .ensures)))
 
 rest-requires : tie.Need-rest-requires
 rest-requires c κs = search needs
@@ -40,8 +46,8 @@ rest-requires c κs = search needs
 returns-2 : tie.Need-returns-2
 unfolding writePlan
 returns-2 c rows programmed =
-    refused (any (c .before .before .before .before .before .before) rows programmed ∙ sym (c .before .before .wrt-legal .ensures rows programmed) ∙ c .before .if1 .left) (c .rest .ensures)
+    refused (any (c .before .before .before .before .before .before) _ rows programmed ∙ sym (c .before .before .wrt-legal .ensures rows programmed) ∙ c .before .if1 .left) (c .rest .ensures)
 
 pub write-spec : {M : Type 1} → statement M
 write-spec =
-    tie.close (tie.spec wrt-legal-requires note-wrt-requires returns rest-requires returns-2)
+    tie.close (tie.spec wrt-legal-requires note-wrt-requires request-at-requires returns rest-requires returns-2)

@@ -24,9 +24,6 @@ pack-command-requires c κs = search needs
 pack-report-requires : tie.Need-pack-report-requires
 pack-report-requires c κs = search needs
 
-place-requires : tie.Need-place-requires
-place-requires c κs = search needs
-
 counters-after-requires : tie.Need-counters-after-requires
 counters-after-requires c κs = search needs
 
@@ -39,17 +36,17 @@ elapse-requires c κs = search needs
 returns : tie.Need-returns
 unfolding elapsedOf
 returns c =
-    let s = c .before .before .before .before .before .before .before .before .before .before .before .before .before .before .before .before .before .before .before in
-    let at-serve = c .before .before .before .before .before .before .before .before in (
+    let s = c .before .before .before .before .before .before .before .before .before .before .before .before .before .before .before .before .before .before in
+    let at-serve = c .before .before .before .before .before .before .before in (
       step-is _ _ _ _ _ _ _ (s .pre .1 .0) (s .pre .1 .1) (s .pre .1 .2)
           (at-serve .before .before .before .before .before .before .before .before .before .before .ticked .ensures)
           (at-serve .before .before .before .before .before .before .before .before .before .must-after .ensures)
           (at-serve .before .before .before .before .before .before .current .ensures _)
           (at-serve .serve .ensures)
           (c .before .before .before .before .counters-after .ensures)
-          (c .before .before .queue-after .ensures ∙ rw (c .before .before .before .before .before .place .ensures))
+          (c .before .before .queue-after .ensures)
           (rw (c .elapse .ensures)),
-      (c .before .before .before .before .before .before .before .pack-command .ensures, c .before .before .before .before .before .before .pack-report .ensures),
+      (c .before .before .before .before .before .before .pack-command .ensures, c .before .before .before .before .before .pack-report .ensures),
     )
 
 pub step-spec : {M : Type 1} → statement M
@@ -62,7 +59,6 @@ step-spec =
     serve-requires
     pack-command-requires
     pack-report-requires
-    place-requires
     counters-after-requires
     queue-after-requires
     elapse-requires
