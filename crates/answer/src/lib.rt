@@ -51,7 +51,7 @@ pub enum Answer {
     Slots(u8, usize),
     // One of those slots: the words of its command and of its report.
     Packed(u64, u64),
-    // A place behind those slots that is no longer 0.
+    // A place beyond those slots that is no longer 0.
     Unknown,
     // A line that is no call: its place in the script, counted from 1.
     Wrong(u64),

@@ -50,7 +50,7 @@ ranOf c p n x q (bus ∷ later) =
       reports = reportWord (t .report) ∷ r .reports;
     }
 
--- a slot for each of the first halfwords; their words are stored from the first place on, and what is behind them stays
+-- a slot for each of the first halfwords; their words are stored from the first place on, and what is beyond them stays
 unfoldable pub filledOf : ℕ → Config → Past → Counters → Control → Queue → List ℕ → List ℕ → List ℕ → Ran
 filledOf slots c p n x q bus commands reports =
     let r : Ran = ranOf c p n x q (take slots bus) in

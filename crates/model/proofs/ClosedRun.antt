@@ -166,7 +166,7 @@ pub record ClosedClaim : Type 0 where
   pub once : chain 236 .reported ≡ 3 ∷ 2 ∷ 1 ∷ []
   pub flat-written : chain 236 .flat .contents 2 ≡ 65535
   pub cells-written : chain 236 .sdram .cells (cellAt 0 0 1) ≡ 65535
-  -- in one call they are the same: the reports' words, with what was behind them, the numbers, the cell
+  -- in one call they are the same: the reports' words, with what was beyond them, the numbers, the cell
   pub told-at-once :
       told-words
       ≡ 0 ∷ 0 ∷ reportWord (Report.Read 1 5) ∷ 0 ∷ reportWord (Report.Write 2) ∷ 0 ∷ 0 ∷ reportWord (Report.Read 3 65535) ∷ 9 ∷ 9 ∷ []

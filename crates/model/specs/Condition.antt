@@ -28,7 +28,7 @@ use Rattle.numbers.specs.Numbers.{lastNumber}
 use Rattle.sequencer.specs.Calls.{configureOf, recordNumberOf, readRequestOf, writeRequestOf, backlogOf}
 use Rattle.packing.specs.Packing.{commandWord, commandIn, reportWord, reportIn}
 use Rattle.packing.specs.Laws.{FitsCommand, FitsReport}
-use Rattle.sequencer.specs.Batch.{Batch}
+use Rattle.sequencer.specs.Batch.{Batch, countOf}
 use Rattle.model.specs.Sdram.{Cells, takes}
 use Rattle.model.specs.World.{
   World,
@@ -42,7 +42,6 @@ use Rattle.model.specs.World.{
   slotIn,
   afterSlot,
   afterSlots,
-  countOf,
   usedOf,
   batchIn,
   startWorld,
@@ -164,17 +163,17 @@ abbrev pub EachCarried : Config → World → List ℕ → Type 0
 EachCarried c w [] = Standing c w
 EachCarried c w (any ∷ later) = Standing c w × Carried c w (slotIn w any) × EachCarried c (afterSlot c w (slotIn w any)) later
 
--- The call gives what they give, in words, and leaves what is behind these.
-pub record CarriedAll (c : Config) (w : World) (bus commands reports : List ℕ) (r : Batch) : Type 0 where
+-- The call of n slots, with the halfwords that it uses: it gives what they give, in words, and the places beyond the count hold what they held.
+pub record CarriedAll (c : Config) (w : World) (n : ℕ) (used commands reports : List ℕ) (r : Batch) : Type 0 where
   pub answered : r .number ≡ 0
-  pub count : r .count ≡ countOf bus commands reports
-  pub machine : r .machine ≡ afterSlots c w (usedOf bus commands reports) .machine
-  pub commands-sent : r .commands ≡ map (λ s. commandWord (s .command)) (slotsAlong c w (usedOf bus commands reports)) ++ drop (countOf bus commands reports) commands
-  pub reports-given : r .reports ≡ map (λ s. reportWord (s .report)) (slotsAlong c w (usedOf bus commands reports)) ++ drop (countOf bus commands reports) reports
+  pub count : r .count ≡ n
+  pub machine : r .machine ≡ afterSlots c w used .machine
+  pub commands-sent : r .commands ≡ map (λ s. commandWord (s .command)) (slotsAlong c w used) ++ drop n commands
+  pub reports-given : r .reports ≡ map (λ s. reportWord (s .report)) (slotsAlong c w used) ++ drop n reports
   -- unpacked, the words are their commands and reports
-  pub commands-unpacked : map commandIn (take (countOf bus commands reports) (r .commands)) ≡ map (λ s. s .command) (slotsAlong c w (usedOf bus commands reports))
-  pub reports-unpacked : map reportIn (take (countOf bus commands reports) (r .reports)) ≡ map (λ s. s .report) (slotsAlong c w (usedOf bus commands reports))
-  pub each : EachCarried c w (usedOf bus commands reports)
+  pub commands-unpacked : map commandIn (take n (r .commands)) ≡ map (λ s. s .command) (slotsAlong c w used)
+  pub reports-unpacked : map reportIn (take n (r .reports)) ≡ map (λ s. s .report) (slotsAlong c w used)
+  pub each : EachCarried c w used
 
 -- The reading call gives exactly the backlog.
 pub record Exact (c : Config) (w : World) (r : Reading) : Type 0 where
@@ -185,7 +184,8 @@ abbrev pub Right : Config → World → Call → Type 0
 Right c w (read a) = Answered c w a (readRequestOf (w .machine) a)
 Right c w (write a h) = Answered c w a (writeRequestOf (w .machine) a (halfwordOf h))
 Right c w (slot any) = Carried c w (slotIn w any)
-Right c w (slots bus commands reports) = CarriedAll c w bus commands reports (batchIn c w bus commands reports)
+Right c w (slots bus commands reports) =
+    CarriedAll c w (countOf bus commands reports) (usedOf bus commands reports) commands reports (batchIn c w bus commands reports)
 Right c w backlog = Exact c w (backlogOf (w .machine))
 
 -- The claim about a list of calls from a world on.

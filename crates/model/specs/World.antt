@@ -2,7 +2,7 @@
 use Prim.Native.Nat.{ℕ, _%_}
 use mathlib.Core.List.{List, [], _∷_, _++_}
 use mathlib.Core.Option.{Option, none, some}
-use lib.ListN.{length, take, drop}
+use lib.ListN.{take, drop}
 use Rattle.config.specs.declared.Config.{Config}
 use Rattle.queue.specs.declared.Kind.{Kind}
 use Rattle.plan.specs.declared.Report.{Report}
@@ -11,7 +11,7 @@ use Rattle.sequencer.specs.declared.Machine.{Machine}
 use Rattle.sequencer.specs.declared.Requested.{Requested}
 use Rattle.sequencer.specs.declared.Slot.{Slot}
 use Rattle.sequencer.specs.Calls.{readRequestOf, writeRequestOf, slotOf}
-use Rattle.sequencer.specs.Batch.{Batch, roomOf, manySlotsOf}
+use Rattle.sequencer.specs.Batch.{Batch, countOf, manySlotsOf}
 use Rattle.model.specs.Sdram.{Cells, Sdram, startSdram, drivenIn, sdramAfter}
 use Rattle.model.specs.Flat.{Flat, startFlat, flatAfter}
 
@@ -19,8 +19,8 @@ use Rattle.model.specs.Flat.{Flat, startFlat, flatAfter}
 abbrev pub halfwordOf : ℕ → ℕ
 halfwordOf n = n % 65536
 
--- a call with its arguments. A slot has the halfword that the bus carries if the SDRAM has none on it. Many slots have one for each, and what both arrays
--- hold before the call
+-- a call with its arguments. A slot has the halfword that the bus carries if the SDRAM has none on it. Many slots have an array of such halfwords, and what the
+-- other two arrays hold before the call; each is of any length
 pub data Call : Type 0 where
   read : (address : ℕ) → Call
   write : (address halfword : ℕ) → Call
@@ -90,14 +90,11 @@ unfoldable pub busAlong : Config → World → List ℕ → List ℕ
 busAlong c w [] = []
 busAlong c w (any ∷ later) = busOf w any ∷ busAlong c (afterSlot c w (slotIn w any)) later
 
--- how many slots the call runs, and the halfwords that it uses: those of these slots
-abbrev pub countOf : List ℕ → List ℕ → List ℕ → ℕ
-countOf bus commands reports = roomOf (length bus) (length commands) (length reports)
-
+-- the halfwords that the call uses: those of the slots that it runs
 abbrev pub usedOf : List ℕ → List ℕ → List ℕ → List ℕ
 usedOf bus commands reports = take (countOf bus commands reports) bus
 
--- the array that it is handed: the halfwords that the bus carries in its slots, and behind them any. Every array that fits the SDRAM is handed as it is
+-- the array that it is handed: the halfwords that the bus carries in its slots, and beyond the count any. Every array that fits the SDRAM is handed as it is
 -- (`Along`)
 unfoldable pub handedOf : Config → World → List ℕ → List ℕ → List ℕ → List ℕ
 handedOf c w bus commands reports = busAlong c w (usedOf bus commands reports) ++ drop (countOf bus commands reports) bus

@@ -31,8 +31,8 @@ use Rattle.sequencer.specs.declared.Machine.{Machine}
 use Rattle.sequencer.specs.Machine.{stepOf}
 use Rattle.sequencer.specs.Calls.{requestOf, slotOf}
 use Rattle.sequencer.proofs.Sound.{step-serves}
-use Rattle.sequencer.specs.Batch.{seriesOf, batchOf, manySlotsOf}
-use Rattle.model.specs.World.{Call, read, write, slot, slots, backlog, countOf, usedOf}
+use Rattle.sequencer.specs.Batch.{seriesOf, countOf, batchOf, manySlotsOf}
+use Rattle.model.specs.World.{Call, read, write, slot, slots, backlog, usedOf}
 use Rattle.theorem.proofs.Plans.{actedOf, afterOf, step-is}
 use Rattle.progress.specs.Calls.{afterCalls, slotsIn, choosesIn, chooses}
 use Rattle.progress.proofs.Start.{startLeft, left-none, none-left, sooner}

@@ -5,8 +5,8 @@ use mathlib.Core.List.{List, [], _∷_}
 use Rattle.plan.specs.Actions.{isIdle}
 use Rattle.sequencer.specs.declared.Machine.{Machine}
 use Rattle.sequencer.specs.Calls.{readRequestOf, writeRequestOf, slotOf}
-use Rattle.sequencer.specs.Batch.{manySlotsOf}
-use Rattle.model.specs.World.{Call, read, write, slot, slots, backlog, countOf, usedOf}
+use Rattle.sequencer.specs.Batch.{countOf, manySlotsOf}
+use Rattle.model.specs.World.{Call, read, write, slot, slots, backlog, usedOf}
 
 -- the record after a call, and after a list of calls
 abbrev pub afterCall : Machine → Call → Machine

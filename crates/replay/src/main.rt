@@ -164,8 +164,8 @@ fn wrong(run: Run, output: &mut [u8]) -> Run {
     answered(run, Played { machine, text }, output)
 }
 
-// n, and `most` where it is larger.
-fn least(n: usize, most: usize) -> usize
+// n, but no more than `most`.
+fn at_most(n: usize, most: usize) -> usize
     ensures { λ r. ⌜ r ≤ most ⌝ }
 {
     if most < n {
@@ -194,7 +194,7 @@ fn append(bus: &mut [u16], waiting: usize, given: &[u32; NUMBERS], count: usize)
 
 // The call `bus`, with so many halfwords.
 fn add(run: Run, count: usize, given: &[u32; NUMBERS], bus: &mut [u16], output: &mut [u8]) -> Run {
-    let waiting = least(run.halfwords, bus.len());
+    let waiting = at_most(run.halfwords, bus.len());
     if bus.len() - waiting < count {
         return wrong(run, output);
     }
@@ -294,9 +294,9 @@ fn zeros() -> [u64; 4096]
 fn slots(run: Run, commands: u32, reports: u32, bus: &[u16], output: &mut [u8]) -> Run {
     let mut command_words = zeros();
     let mut report_words = zeros();
-    let waiting = least(run.halfwords, bus.len());
-    let c = least(commands as usize, 4096);
-    let r = least(reports as usize, 4096);
+    let waiting = at_most(run.halfwords, bus.len());
+    let c = at_most(commands as usize, 4096);
+    let r = at_most(reports as usize, 4096);
     run_slots(
         run,
         &bus[..waiting],

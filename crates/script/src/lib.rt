@@ -54,8 +54,7 @@ pub enum Call {
 // A line of 255 bytes has room for so many numbers: `bus` and 126 times a space and a digit.
 pub const NUMBERS: usize = 126;
 
-// The words of a line, as far as they have been read. Its numbers are kept beside them, in an array that is lent: copied with each byte, they
-// would more than double the time that a script takes.
+// The words of a line, as far as they have been read. Its numbers are kept beside them, in an array that is lent (docs/DECISIONS.md).
 pub struct Words {
     // Is it known that the line is no call?
     wrong: bool,

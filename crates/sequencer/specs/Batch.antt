@@ -25,9 +25,12 @@ unfoldable pub seriesOf : Machine → List ℕ → Series
 seriesOf m [] = record { machine = m; commands = []; reports = [] }
 seriesOf m (bus ∷ later) = let s : Slot = slotOf m bus in before s (seriesOf (s .machine) later)
 
--- as many slots as the shortest of the three arrays has room for
+-- as many slots as the shortest of the three arrays has room for: by the arrays' lengths, and by the arrays
 abbrev pub roomOf : ℕ → ℕ → ℕ → ℕ
 roomOf bus commands reports = min bus (min commands reports)
+
+abbrev pub countOf : List ℕ → List ℕ → List ℕ → ℕ
+countOf bus commands reports = roomOf (length bus) (length commands) (length reports)
 
 -- what the call gives: a number of the table, the count of slots run, the machine, and both arrays after it
 pub record Batch : Type 0 where
@@ -37,7 +40,7 @@ pub record Batch : Type 0 where
   pub commands : List ℕ
   pub reports : List ℕ
 
--- n slots; the places behind their words hold what they held
+-- n slots; the places beyond the count hold what they held
 unfoldable pub batchOf : Machine → ℕ → List ℕ → List ℕ → List ℕ → Batch
 batchOf m n bus commands reports =
     let r : Series = seriesOf m (take n bus) in
@@ -46,7 +49,7 @@ batchOf m n bus commands reports =
 -- The call. 9 and 8 are tested once; refused, no slot is run, and nothing is stored.
 unfoldable pub manySlotsOf : Machine → List ℕ → List ℕ → List ℕ → Batch
 manySlotsOf m bus commands reports =
-    cond (eqb (recordNumberOf m) 0) (batchOf m (roomOf (length bus) (length commands) (length reports)) bus commands reports)
+    cond (eqb (recordNumberOf m) 0) (batchOf m (countOf bus commands reports) bus commands reports)
     (record { number = recordNumberOf m; count = 0; machine = m; commands = commands; reports = reports })
 
 -- as the code has it: the arrays changed in place, and the rest in its answer

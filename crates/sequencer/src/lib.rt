@@ -348,7 +348,7 @@ impl Machine {
     }
 
     // Runs as many slots as the shortest of the three arrays has places; `bus` has the halfword that the bus carries in each. The words of their commands and
-    // reports (docs/PACKING.md) are stored from the first place on, and the places behind them stay. Refused, no slot is run, and nothing changes. The
+    // reports (docs/PACKING.md) are stored from the first place on, and the places beyond the count stay. Refused, no slot is run, and nothing changes. The
     // machine's parts stay in place for all slots, and it is built once.
     pub fn slots(self, bus: &[u16], commands: &mut [u64], reports: &mut [u64]) -> Slots
         ensures { λ r. ⌜ gathered r (now (commands .exit)) (now (reports .exit)) ≡ manySlotsOf self (now (bus .entry)) (now (commands .entry)) (now (reports .entry)) ⌝ }

@@ -12,8 +12,8 @@ use Rattle.packing.specs.Packing.{commandWord, commandIn, reportWord, reportIn}
 use Rattle.packing.proofs.Laws.{packed-commands, packed-reports}
 use Rattle.sequencer.specs.declared.Slot.{Slot}
 use Rattle.sequencer.specs.Calls.{recordNumberOf}
-use Rattle.sequencer.specs.Batch.{Series, before, seriesOf, Batch, batchOf, manySlotsOf}
-use Rattle.model.specs.World.{World, slotIn, afterSlot, afterSlots, busAlong, countOf, usedOf, handedOf, batchIn, afterBatch}
+use Rattle.sequencer.specs.Batch.{Series, before, seriesOf, Batch, countOf, batchOf, manySlotsOf}
+use Rattle.model.specs.World.{World, slotIn, afterSlot, afterSlots, busAlong, usedOf, handedOf, batchIn, afterBatch}
 use Rattle.model.specs.Condition.{slotsAlong, Carried, EachCarried, CarriedAll}
 use Rattle.theorem.proofs.Standing.{Whole, sound, standing}
 use Rattle.theorem.proofs.Slot.{slot-right}
@@ -101,7 +101,7 @@ module _ (c : Config) (w : World) (bus commands reports : List ℕ) where
 
   -- it is right, and keeps the invariant
   pub batch-right : Accepted c → Whole c w
-      → Whole c (afterBatch (afterSlots c w any) (batchIn c w bus commands reports)) × CarriedAll c w bus commands reports (batchIn c w bus commands reports)
+      → Whole c (afterBatch (afterSlots c w any) (batchIn c w bus commands reports)) × CarriedAll c w n any commands reports (batchIn c w bus commands reports)
   unfolding afterBatch
   batch-right a v =
       let all = slots-right any w a v in

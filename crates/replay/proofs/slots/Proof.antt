@@ -1,4 +1,4 @@
--- Each part is as long as `least` says.
+-- Each part is as long as `at_most` says.
 use mathlib.Core.Path.{sym}
 use native.Mathlib.Omega.{arith}
 use lib.Seq.{length-take-le}
@@ -12,29 +12,29 @@ zeros-requires c κs = search needs
 zeros-requires-2 : tie.Need-zeros-requires-2
 zeros-requires-2 c κs = search needs
 
-least-requires : tie.Need-least-requires
-least-requires c κs = search needs
+at-most-requires : tie.Need-at-most-requires
+at-most-requires c κs = search needs
 
-least-requires-2 : tie.Need-least-requires-2
-least-requires-2 c κs = search needs
+at-most-requires-2 : tie.Need-at-most-requires-2
+at-most-requires-2 c κs = search needs
 
-least-requires-3 : tie.Need-least-requires-3
-least-requires-3 c κs = search needs
+at-most-requires-3 : tie.Need-at-most-requires-3
+at-most-requires-3 c κs = search needs
 
 slice-aggregate-run-slots : tie.Need-slice-aggregate-run-slots
-slice-aggregate-run-slots c = sym (length-take-le (c .before .before .before .least .result) (c .before .before .before .before .before .before .before .before .args .bus .now) (omega arith))
+slice-aggregate-run-slots c = sym (length-take-le (c .before .before .before .at-most .result) (c .before .before .before .before .before .before .before .before .args .bus .now) (omega arith))
 
 array-borrow-prefix-command-words : tie.Need-array-borrow-prefix-command-words
 array-borrow-prefix-command-words c = search needs
 
 slice-aggregate-run-slots-2 : tie.Need-slice-aggregate-run-slots-2
-slice-aggregate-run-slots-2 c = sym (length-take-le (c .before .before .before .least2 .result) (c .before .before .before .before .before .before .zeros .result) (omega arith))
+slice-aggregate-run-slots-2 c = sym (length-take-le (c .before .before .before .at-most2 .result) (c .before .before .before .before .before .before .zeros .result) (omega arith))
 
 array-borrow-prefix-report-words : tie.Need-array-borrow-prefix-report-words
 array-borrow-prefix-report-words c = search needs
 
 slice-aggregate-run-slots-3 : tie.Need-slice-aggregate-run-slots-3
-slice-aggregate-run-slots-3 c = sym (length-take-le (c .before .before .before .least3 .result) (c .before .before .before .before .before .before .zeros2 .result) (omega arith))
+slice-aggregate-run-slots-3 c = sym (length-take-le (c .before .before .before .at-most3 .result) (c .before .before .before .before .before .before .zeros2 .result) (omega arith))
 
 run-slots-requires : tie.Need-run-slots-requires
 run-slots-requires c κs = search needs
@@ -51,9 +51,9 @@ slots-spec =
     (tie.spec
     zeros-requires
     zeros-requires-2
-    least-requires
-    least-requires-2
-    least-requires-3
+    at-most-requires
+    at-most-requires-2
+    at-most-requires-3
     slice-aggregate-run-slots
     array-borrow-prefix-command-words
     slice-aggregate-run-slots-2

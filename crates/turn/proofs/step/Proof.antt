@@ -2,7 +2,6 @@
 use borrow.Author.Needs.{needs}
 use Rattle.turn.proofs.step.Statement.{statement}
 use Rattle.turn.proofs.step.Tie as tie
-use mathlib.Core.Path.{_∙_}
 use Rattle.aging.specs.Noted.{elapsedOf}
 use Rattle.turn.proofs.Laws.{step-is}
 
