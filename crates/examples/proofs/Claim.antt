@@ -21,9 +21,12 @@ use Rattle.sequencer.specs.Machine.{blankOf, machineOf, stepOf}
 use Rattle.numbers.specs.Sound.{stateBy, fitBy, soundBy}
 use Rattle.numbers.specs.Numbers.{recordNumberBy, roomNumberOf, requestNumberBy}
 use Rattle.sequencer.specs.Calls.{configuredBy, configureOf, queuedRequest, enqueuedOf, requestOf, slotOf}
+use Rattle.packing.specs.Packing.{wordOf, commandWord, commandIn, reportWord}
+use Rattle.tape.specs.Writing.{runBytes, commandBytes, slotPiece, pieceOf, tapeAfter}
+use Rattle.sequencer.specs.Batch.{seriesOf}
 use Rattle.examples.specs.Run.{occupied, watched, requested}
 use Rattle.examples.specs.Table.{table, answer}
 
 pub examples-hold : map (λ e. answer (e .asked)) table ≡ map (λ e. e .said) table
-unfolding table answer settingOf reservedAll reservedMap offeredOf checkedOf configOf geometryOf toCellOf mapNumberOf locatedOf addressNumberOf capacityOf cellOf holdsOf allClosed marksOf rowOf legalOf requirements R7 R12-open R13-open R14 freshOf openIn rowIn openRows agedOf agesAfter sentOf carriedOf emptyOf acceptOf storedOf removeOf shiftedOf getOf requestAt requestIn kindIn blockedOf readyOf oldestOf startOf tickOf refreshedOf soundCounters levelOf soundAction plan.quietly plan.outcomeOf plan.tries plan.rest plan.afterPause plan.afterInitRefresh plan.readPlan plan.writePlan plan.transferPlan plan.accessPlan plan.takenPlan plan.latencyPlan plan.cycleLeft plan.refreshPlan plan.planOf plan.queueAfter plan.countersAfter rulesOf choiceOf currentOf tickedOf turnOf blankOf machineOf stepOf configAccepted shapedOf distancesOf spannedOf stateBy fitBy soundBy configuredBy configureOf recordNumberBy roomNumberOf requestNumberBy queuedRequest enqueuedOf requestOf slotOf occupied watched requested
+unfolding table answer settingOf reservedAll reservedMap offeredOf checkedOf configOf geometryOf toCellOf mapNumberOf locatedOf addressNumberOf capacityOf cellOf holdsOf allClosed marksOf rowOf legalOf requirements R7 R12-open R13-open R14 freshOf openIn rowIn openRows agedOf agesAfter sentOf carriedOf emptyOf acceptOf storedOf removeOf shiftedOf getOf requestAt requestIn kindIn blockedOf readyOf oldestOf startOf tickOf refreshedOf soundCounters levelOf soundAction plan.quietly plan.outcomeOf plan.tries plan.rest plan.afterPause plan.afterInitRefresh plan.readPlan plan.writePlan plan.transferPlan plan.accessPlan plan.takenPlan plan.latencyPlan plan.cycleLeft plan.refreshPlan plan.planOf plan.queueAfter plan.countersAfter rulesOf choiceOf currentOf tickedOf turnOf blankOf machineOf stepOf configAccepted shapedOf distancesOf spannedOf stateBy fitBy soundBy configuredBy configureOf recordNumberBy roomNumberOf requestNumberBy queuedRequest enqueuedOf requestOf slotOf seriesOf wordOf commandWord commandIn reportWord runBytes commandBytes slotPiece pieceOf tapeAfter occupied watched requested
 examples-hold = refl

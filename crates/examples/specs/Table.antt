@@ -2,7 +2,8 @@
 -- answer, and what is said.
 use Prim.Native.Nat.{ℕ}
 use mathlib.Core.Bool.{false}
-use mathlib.Core.List.{List, [], _∷_}
+use mathlib.Core.List.{List, [], _∷_, map}
+use lib.ListN.{drop, replicate}
 use Rattle.config.specs.declared.Config.{Config}
 use Rattle.config.specs.declared.Setting.{Setting}
 use Rattle.config.specs.Setting.{settingOf}
@@ -11,7 +12,10 @@ use Rattle.standalone.specs.Standalone.{toCellOf}
 use Rattle.command.specs.declared.Command.{Command}
 use Rattle.command.specs.declared.Command.the-variants.{Act, Read, Wrt, Pre, Deac, Refr, Mrs}
 use Rattle.plan.specs.Completion.{readDone, writeDone}
+use Rattle.packing.specs.Packing.{commandIn}
+use Rattle.tape.specs.Writing.{tapeOf}
 use Rattle.sequencer.specs.Calls.{configureOf}
+use Rattle.sequencer.specs.Batch.{seriesOf}
 use Rattle.model.specs.World.{Call, read, write}
 use Rattle.examples.specs.Run.{Event, sent, told, free, watched, requested, numbersOf}
 
@@ -26,6 +30,8 @@ pub data Question : Type 0 where
   bus : (cfg row ref tim : ℕ) (calls : List Call) (n from : ℕ) → Question
   -- in which order are these requests reported within n slots?
   order : (cfg row ref tim : ℕ) (calls : List Call) (n : ℕ) → Question
+  -- with these requests queued before slot 1, what is the tape of the first n slots without the first `gone` of them, if the bus carries 7?
+  tape : (cfg row ref tim : ℕ) (calls : List Call) (n gone : ℕ) → Question
 
 pub data Answer : Type 0 where
   -- a number of the table, the access span A and the refresh span F
@@ -51,6 +57,7 @@ answer (distances cfg row ref tim) = numbers (distancesOf (settingOf cfg row ref
 answer (cell cfg row a) = ofCell (toCellOf cfg row a)
 answer (bus cfg row ref tim calls n from) = events (watched n 1 from false 7 (requested (configureOf cfg row ref tim .machine) calls))
 answer (order cfg row ref tim calls n) = numbers (numbersOf (watched n 1 1 false 7 (requested (configureOf cfg row ref tim .machine) calls)))
+answer (tape cfg row ref tim calls n gone) = numbers (tapeOf (map commandIn (drop gone (seriesOf (requested (configureOf cfg row ref tim .machine) calls) (replicate n 7) .commands))))
 
 pub record Example : Type 0 where
   pub asked : Question
@@ -94,6 +101,12 @@ table =
     (events
     (sent 217 Deac ∷ sent 218 Refr ∷ sent 219 Refr ∷ sent 220 Refr ∷ sent 221 Refr ∷ sent 222 Refr ∷ sent 223 Refr ∷ sent 224 Refr ∷ sent 225 Refr ∷ sent 226 (Mrs 32)
     ∷ sent 228 (ACT 0 0) ∷ sent 229 (WRT 0 0 9) ∷ told 229 (writeDone 1) ∷ free 230 ∷ sent 230 (READ 0 0) ∷ told 232 (readDone 2 7) ∷ free 234 ∷ []))
+    -- E5's slots 217 to 229 on a tape, with halfword 7 written (document 02, (ii)); not the paper's: the run before them, in the tape from slot 1 on
+    ∷ row (tape 0x4400 0 27 0 (write 0 7 ∷ read 0 ∷ []) 229 216)
+    (numbers
+    (0x05 ∷ 0x06 ∷ 0x06 ∷ 0x06 ∷ 0x06 ∷ 0x06 ∷ 0x06 ∷ 0x06 ∷ 0x06 ∷ 0x07 ∷ 0x20 ∷ 0x00 ∷ 0x00 ∷ 0x01 ∷ 0x00
+    ∷ 0x01 ∷ 0x00 ∷ 0x00 ∷ 0x00 ∷ 0x03 ∷ 0x00 ∷ 0x00 ∷ 0x00 ∷ 0x07 ∷ 0x00 ∷ []))
+    ∷ row (tape 0x4400 0 27 0 [] 217 0) (numbers (0x00 ∷ 0xd8 ∷ 0x00 ∷ 0x05 ∷ []))
     -- E6
     ∷ row (bus 0x4400 0 27 0 (write 0 9 ∷ read 0 ∷ []) 362 235)
     (events (sent 335 Deac ∷ sent 336 Refr ∷ free 337 ∷ sent 337 Deac ∷ sent 338 Refr ∷ free 339 ∷ sent 339 Deac ∷ sent 340 Refr ∷ free 341 ∷ sent 341 Deac ∷ sent 342 Refr ∷ free 343 ∷ sent 362 Deac ∷ []))

@@ -66,7 +66,7 @@ command-back (Mrs w) f =
     (x .word, simp (x .kind-is, x .low-is))
 
 -- whatever a word unpacks to fits
-command-fits : (w : ℕ) → FitsCommand (commandIn w)
+pub command-fits : (w : ℕ) → FitsCommand (commandIn w)
 unfolding commandIn
 command-fits w =
     if-both FitsCommand (eqb (kindOf w) 1) (λ e. (omega arith, omega arith))

@@ -10,6 +10,7 @@ ghost use Rattle.packing.specs.Packing.{
   commandWord,
   commandIn,
   packsCommand,
+  limitOf,
   reportWord,
   reportIn,
   packsReport,
@@ -57,11 +58,36 @@ pub fn unpack_command(word: u64) -> Command
     }
 }
 
+// The words of a kind's commands lie below this.
+fn limit(kind: u64) -> u64
+    ensures { λ r. ⌜ r ≡ limitOf kind ⌝ }
+{
+    match kind {
+        0 => 1,
+        1 => 4294967296,
+        2 => 4294967296,
+        3 => 281474976710656,
+        4 => 65536,
+        5 => 6,
+        6 => 7,
+        7 => 4294967296,
+        _ => 0,
+    }
+}
+
 // Is the word a command's?
 pub fn packs_command(word: u64) -> bool
     ensures { λ r. ⌜ r ≡ packsCommand word ⌝ }
 {
-    pack_command(unpack_command(word)) == word
+    let kind = word % 256;
+    if limit(kind) <= word {
+        return false;
+    }
+    // MRS has no bank.
+    if kind == 7 {
+        return word / 256 % 256 == 0;
+    }
+    true
 }
 
 // The word of a report.

@@ -1,0 +1,4 @@
+-- Document 02, (ii): bus tapes.
+pub mod Writing
+pub mod Reading
+pub mod Laws

@@ -1,0 +1,2 @@
+-- The reader of tapes, as the code has it.
+pub mod Reader
