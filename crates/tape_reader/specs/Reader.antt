@@ -1,31 +1,8 @@
 -- The reader's code in the terms of the format (crate `tape`, specs/Reading.antt).
-use Prim.Native.Nat.{ℕ, _+_, _-_, _<_, _≤_}
-use mathlib.Core.Path.{_≡_}
-use mathlib.Core.List.{List}
-use mathlib.Core.Bool.{cond}
-use lib.ListN.{length, getD}
 use Rattle.tape.specs.declared.Item.{Item}
-use Rattle.tape.specs.Reading.{run, refusal, answerOf, bodyLength, wrongRun, Step}
-use Rattle.tape_reader.specs.declared.Found.{Found}
+use Rattle.tape.specs.Reading.{answerOf, Step}
 use Rattle.tape_reader.specs.declared.Reader.{Reader}
 
--- a step of the reader: what the decoder finds
-abbrev pub stepIn : Found → Step
-stepIn f = record { answer = answerOf (f .item); at = f .at; run = f .run }
-
--- and a reader's answer with the reader after it
+-- a step of the reader: its answer, and the reader after it
 abbrev pub stepAfter : Item → Reader → Step
 stepAfter i r = record { answer = answerOf i; at = r .at; run = r .run }
-
--- a run's record at a place
-unfoldable pub runStep : ℕ → ℕ → ℕ → Step
-runStep at before count =
-    cond (wrongRun before count) (record { answer = refusal 13 at; at = at; run = before })
-    (record { answer = run count; at = at + 3; run = count })
-
--- a record of a known kind, whole on the tape
-pub record Whole (tape : List ℕ) (at kind : ℕ) : Type 0 where
-  pub here : at < length tape
-  pub is : kind ≡ getD tape at 0
-  pub known : kind ≤ 7
-  pub whole : bodyLength kind ≤ length tape - at - 1

@@ -1,149 +1,15 @@
-// Owns the reader of tapes (document 02, (ii)): the record at a place of a tape, and a reader that goes from record to record.
-use address::Bank;
-use address::Column;
-use address::Row;
-use command::Command;
+// Owns the reader of tapes (document 02, (ii)): it keeps a lent tape and its place, and goes from record to record.
 use tape::Item;
-use tape::Refusal;
-ghost use Prim.Native.Nat.{_+_, _*_, _<_};
+use tape_decoder::read_at;
 ghost use mathlib.Core.Path.{_≡_};
-ghost use lib.ListN.{length, getD};
-ghost use Rattle.tape.specs.Reading.{bodyLength, stepOf};
-ghost use Rattle.tape_reader.specs.Reader.{stepIn, stepAfter, runStep, Whole};
-
-// What is read at a place, and the place and the run just before it afterwards.
-pub struct Found {
-    pub item: Item,
-    pub at: usize,
-    pub run: u16,
-}
+ghost use Rattle.tape.specs.Reading.{stepOf};
+ghost use Rattle.tape_reader.specs.Reader.{stepAfter};
 
 // A lent tape, the place of the next record, and the count of the run read just before, else 0. Any place and any count may stand here.
 pub struct Reader<'a> {
     pub tape: &'a [u8],
     pub at: usize,
     pub run: u16,
-}
-
-// How many bytes follow a kind.
-fn body_length(kind: u8) -> usize
-    ensures { λ r. ⌜ r ≡ bodyLength kind ⌝ }
-{
-    match kind {
-        0 => 2,
-        1 => 3,
-        2 => 3,
-        3 => 5,
-        4 => 1,
-        7 => 2,
-        _ => 0,
-    }
-}
-
-// A number in two bytes, the low one first.
-fn pair(low: u8, high: u8) -> u16
-    ensures { λ r. ⌜ r ≡ low + 256 * high ⌝ }
-{
-    low as u16 + 256 * high as u16
-}
-
-// Such a number at a place of a tape.
-fn pair_at(tape: &[u8], at: usize) -> u16
-    requires { ⌜ at + 1 < length (now tape) ⌝ }
-    ensures { λ r. ⌜ r ≡ getD (now (tape .entry)) at 0 + 256 * getD (now (tape .entry)) (at + 1) 0 ⌝ }
-{
-    pair(tape[at], tape[at + 1])
-}
-
-// A refused record leaves the reader as it was.
-fn refused(why: Refusal, at: usize, run: u16) -> Found
-    ensures { λ r. ⌜ r ≡ record { item = Item.Refused why at; at = at; run = run } ⌝ }
-{
-    let item = Item::Refused(why, at);
-    Found { item, at, run }
-}
-
-// After a command no run stands just before.
-fn sent(command: Command, at: usize) -> Found
-    ensures { λ r. ⌜ r ≡ record { item = Item.Command command; at = at; run = 0 } ⌝ }
-{
-    let item = Item::Command(command);
-    Found { item, at, run: 0 }
-}
-
-// A run at a place, after another of so many NOPs, or after none.
-fn run_at(at: usize, before: u16, count: u16) -> Found
-    requires { ⌜ at + 3 < 18446744073709551616 ⌝ }
-    ensures { λ r. ⌜ stepIn r ≡ runStep at before count ⌝ }
-{
-    if count == 0 {
-        return refused(Refusal::Run, at, before);
-    }
-    if 0 < before {
-        if before < 65535 {
-            return refused(Refusal::Run, at, before);
-        }
-    }
-    Found {
-        item: Item::Run(count),
-        at: at + 3,
-        run: count,
-    }
-}
-
-// A record of a known kind that the tape holds whole.
-fn record_at(tape: &[u8], at: usize, run: u16, kind: u8) -> Found
-    requires { ⌜ Whole (now tape) at kind ⌝ }
-    ensures { λ r. ⌜ stepIn r ≡ stepOf (now (tape .entry)) at run ⌝ }
-{
-    if kind < 1 {
-        return run_at(at, run, pair_at(tape, at + 1));
-    }
-    if 6 < kind {
-        return sent(Command::Mrs(pair_at(tape, at + 1)), at + 3);
-    }
-    if 5 < kind {
-        return sent(Command::Refr, at + 1);
-    }
-    if 4 < kind {
-        return sent(Command::Deac, at + 1);
-    }
-    let bank = Bank(tape[at + 1]);
-    if 3 < kind {
-        return sent(Command::Pre(bank), at + 2);
-    }
-    let low = pair_at(tape, at + 2);
-    if kind < 2 {
-        return sent(Command::Act(bank, Row(low)), at + 4);
-    }
-    if kind < 3 {
-        return sent(Command::Read(bank, Column(low)), at + 4);
-    }
-    sent(
-        Command::Wrt(bank, Column(low), pair_at(tape, at + 4)),
-        at + 6,
-    )
-}
-
-// The record at a place of a tape, after a run of so many NOPs (0: after no run).
-pub fn read_at(tape: &[u8], at: usize, run: u16) -> Found
-    ensures { λ r. ⌜ stepIn r ≡ stepOf (now (tape .entry)) at run ⌝ }
-{
-    if tape.len() <= at {
-        return Found {
-            item: Item::End,
-            at,
-            run,
-        };
-    }
-    let kind = tape[at];
-    if 7 < kind {
-        return refused(Refusal::Kind, at, run);
-    }
-    if tape.len() - at - 1 < body_length(kind) {
-        return refused(Refusal::Cut, at, run);
-    }
-    record_at(tape, at, run, kind)
 }
 
 // A reader at the beginning of a tape.

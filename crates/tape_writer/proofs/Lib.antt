@@ -1,6 +1,4 @@
--- The writer's records, passes and laws.
-pub mod Slots
-pub mod Stores
+-- The writer's passes, outcomes and laws.
 pub mod Passes
 pub mod Outcomes
 pub mod Laws

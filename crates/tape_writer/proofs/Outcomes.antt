@@ -9,7 +9,7 @@ use lib.Seq.{sets}
 use borrow.Author.Tests.{lt-ltb, le-ltb}
 use Rattle.tape.specs.Writing.{runBytes, Piece, pieceOf, tapeAfter}
 use Rattle.tape_writer.specs.Writer.{slotsIn, allPack, Outcome, refusedOf, frontOf, writtenOf, Extending, extendedOf}
-use Rattle.tape_writer.proofs.Stores.{sets-append, sets-front}
+use Rattle.tape_encoder.proofs.Stores.{sets-append, sets-front}
 
 -- bytes that are put in front
 front-short : (bytes lent : List ℕ) → length lent < length bytes → frontOf bytes lent ≡ refusedOf 14 lent

@@ -16,8 +16,8 @@ use Rattle.tape.specs.Writing.{runBytes, commandBytes, isNop, Piece, slotPiece,
 use Rattle.tape_writer.specs.declared.Measured.{Measured}
 use Rattle.tape_writer.specs.Writer.{slotsIn, allPack}
 use Rattle.tape_writer.specs.Passes.{measuredOf}
-use Rattle.tape_writer.proofs.Slots.{joins, begins, ends, short-run, some-run, no-run, few-bytes}
-use Rattle.tape_writer.proofs.Stores.{sets-append}
+use Rattle.tape_encoder.proofs.Slots.{joins, begins, ends, short-run, some-run, no-run, few-bytes}
+use Rattle.tape_encoder.proofs.Stores.{sets-append}
 
 -- a slot adds six bytes at most to the records and the run that waits
 pub slot-grows : (n : ℕ) (k : Command) → length (slotPiece n k .bytes) + length (runBytes (slotPiece n k .pending)) ≤ length (runBytes n) + 6

@@ -4,7 +4,7 @@ use lib.ListN.{length-map}
 use lib.Seq.{length-sets}
 use Rattle.packing.specs.Packing.{commandIn}
 use Rattle.tape_writer.specs.Writer.{slotsIn}
-use Rattle.tape_writer.proofs.Slots.{short-run}
+use Rattle.tape_encoder.proofs.Slots.{short-run}
 use Rattle.tape_writer.proofs.Passes.{measured-all, measured-not, piece-short}
 use Rattle.tape_writer.proofs.Outcomes.{written-20, written-14, written-0}
 use Rattle.tape_writer.proofs.finish.Statement.{statement}

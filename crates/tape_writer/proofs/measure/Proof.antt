@@ -8,7 +8,7 @@ use lib.ListN.{length, getD, drop}
 use Rattle.packing.specs.Packing.{commandIn}
 use Rattle.tape.specs.Writing.{runBytes}
 use Rattle.tape_writer.specs.Passes.{measuredOf}
-use Rattle.tape_writer.proofs.Slots.{short-run}
+use Rattle.tape_encoder.proofs.Slots.{short-run}
 use Rattle.tape_writer.proofs.Passes.{onward, onward-all, onward-next, onward-stop, onward-end, slot-grows}
 use Rattle.tape_writer.proofs.measure.Statement.{statement}
 use Rattle.tape_writer.proofs.measure.Tie as tie

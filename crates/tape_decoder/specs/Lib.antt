@@ -1,0 +1,2 @@
+-- The decoder of records, as the code has it.
+pub mod Decoder
