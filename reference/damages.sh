@@ -1,9 +1,10 @@
 #!/bin/sh
 # damages.sh: builds every damage of src/damage.h and wants each one found,
-#   by an example that it answers with other lines, or
-#   by a claim that `check` finds broken on a script that the damaged build wrote for itself.
-# The table names the first of each. Its last column says which of the sound program's scripts the
-# damaged build answers with other lines; that is how another program would be compared with this one.
+#   by an example that it answers with other lines or another tape, or
+#   by a claim that `check` or tapes.sh finds broken on a script or tape that the damaged build wrote for itself.
+# The table names the first of each. Its last column says for which of the sound program's scripts and
+# random tapes the damaged build gives other lines or another tape; that is how another program would be
+# compared with this one.
 set -eu
 cd "$(dirname "$0")"
 : "${CC:=gcc}" "${CFLAGS:=-std=c99}"
@@ -13,10 +14,10 @@ seeds='5 6 8 12'
 calls=60000
 mkdir -p $work
 
-# Only these three know of damages; the rest is linked as it is.
-sources='src/words.c src/legality.c src/machine.c'
-objects='build/main.o build/play.o build/script.o build/sdram.o build/memory.o build/check.o
-    build/generate.o'
+# Only these know of damages; the rest is linked as it is.
+sources='src/words.c src/legality.c src/machine.c src/play.c src/tape.c src/show.c'
+objects='build/main.o build/command.o build/script.o build/sdram.o build/memory.o build/check.o
+    build/random.o build/scrap.o build/generate.o'
 
 wrong() {
     echo "WRONG: $*" >&2
@@ -29,15 +30,20 @@ build() {
     $CC $CFLAGS -O0 -DDAMAGE="$1" ${2:-} -o $damaged $sources $objects
 }
 
-# differs_on FILE: FILE.script is not answered with FILE.expected.
+# gives COMMAND INPUT OUTPUT: where there are two such files, COMMAND makes the second of the first.
+gives() {
+    [ ! -e "$2" ] || [ ! -e "$3" ] || $damaged "$1" <"$2" 2>/dev/null | cmp -s - "$3"
+}
+
 differs_on() {
-    ! $damaged run <"$1.script" 2>/dev/null | cmp -s - "$1.expected"
+    ! { gives run "$1.script" "$1.expected" && gives tape "$1.script" "$1.tape" && gives read "$1.tape" "$1.shown" &&
+        gives copy "$1.tape" "$1.copied" && gives damage "$1.tape" "$1.damaged"; }
 }
 
 find_example() {
-    for script in examples/E?.script examples/E??.script examples/[a-z]*.script; do
-        example=${script%.script}
-        if [ $example != examples/last-number-8 ] && differs_on $example; then
+    for file in examples/E?.script examples/E??.script examples/[a-z]*.script examples/*.tape; do
+        example=${file%.*}
+        if [ "$example" != examples/last-number-8 ] && differs_on "$example"; then
             echo "${example#examples/}"
             return
         fi
@@ -57,13 +63,14 @@ find_claim() {
             ;;
         *) wrong "$1: check ends with $status on seed $seed" ;;
         esac
+        ./tapes.sh $damaged $seed || return 0
     done
 }
 
 find_script() {
-    for seed in $seeds; do
-        if differs_on $work/$seed; then
-            echo "$seed"
+    for name in $seeds $tapes; do
+        if differs_on "$work/$name"; then
+            echo "$name"
             return
         fi
     done
@@ -72,7 +79,20 @@ find_script() {
 for seed in $seeds; do
     ./reference script $seed $calls >$work/$seed.script
     ./reference run <$work/$seed.script >$work/$seed.expected
+    ./reference tape <$work/$seed.script >$work/$seed.tape 2>/dev/null
 done
+tapes=
+for seed in 1 2 3 4 5 6 7 8 9 10 11 12; do
+    tapes="$tapes tape-$seed"
+    ./reference random-tape $seed 40 | ./reference spoil $seed >$work/tape-$seed.tape
+    ./reference read <$work/tape-$seed.tape >$work/tape-$seed.shown || [ $? = 1 ]
+    ./reference copy <$work/tape-$seed.tape >$work/tape-$seed.copied || [ $? = 1 ]
+    ./reference damage <$work/tape-$seed.tape >$work/tape-$seed.damaged
+done
+./tapes.sh ./reference 1 # and leaves a tape of more slots than 32 bits count
+tapes="$tapes tape-long"
+cp build/tapes/long $work/tape-long.tape
+./reference read <$work/tape-long.tape >$work/tape-long.shown
 
 # The sound build is not found, nor is the one that differs only in its last request number.
 build SOUND
@@ -82,7 +102,7 @@ if differs_on examples/last-number-8; then wrong "example last-number-8"; fi
 
 count=0
 found=0
-row='%-27s %-23s %-65s %s\n'
+row='%-30s %-23s %-75s %s\n'
 # shellcheck disable=SC2059
 printf "$row" 'damage' 'first example' 'first claim' 'script'
 for name in $(sed -n '/^enum damage/,/^}/s/^    \([A-Z][A-Z0-9_]*\),\{0,1\}.*/\1/p' src/damage.h); do

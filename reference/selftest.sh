@@ -1,5 +1,5 @@
 #!/bin/sh
-# selftest.sh PROGRAM: the sound program against the examples and against generated scripts.
+# selftest.sh PROGRAM: the sound program against the examples and against generated scripts and tapes.
 # Prints a line for each part and ends with status 1 at the first thing that is wrong.
 set -eu
 cd "$(dirname "$0")"
@@ -25,12 +25,34 @@ for script in examples/*.script; do
 done
 echo "examples: $examples as expected"
 
+# --- Examples of tapes: each file of bytes that stands beside a script, its lines, or the ends of its damaged copies.
+# gives STATUS COMMAND INPUT OUTPUT: does nothing where there is no such example.
+pairs=0
+gives() {
+    [ -e "$3" ] && [ -e "$4" ] || return 0
+    status=0
+    "$program" "$2" <"$3" >$work/got 2>/dev/null || status=$?
+    [ $status = "$1" ] || wrong "$2 ends with $status on $3"
+    cmp -s $work/got "$4" || wrong "$2 differs on $3"
+    pairs=$((pairs + 1))
+}
+for tape in examples/*.tape; do
+    name=${tape%.tape}
+    gives 0 tape "$name.script" "$tape"
+    case $(tail -n 1 "$name.shown" 2>/dev/null) in
+    end*) gives 0 read "$tape" "$name.shown" ;;
+    *) gives 1 read "$tape" "$name.shown" ;;
+    esac
+    gives 0 damage "$tape" "$name.damaged"
+done
+echo "examples of tapes: $pairs as expected"
+
 # --- The stored examples are those that make-examples.py writes.
 if command -v python3 >/dev/null; then
     mkdir -p $work/examples
     cp examples/make-examples.py $work/examples/
     python3 $work/examples/make-examples.py
-    for file in examples/*.script examples/*.expected; do
+    for file in examples/*.script examples/*.expected examples/*.tape examples/*.shown examples/*.damaged; do
         cmp -s "$file" "$work/$file" || wrong "$file is not what make-examples.py writes"
     done
 fi
@@ -87,3 +109,64 @@ status=0
 [ $status = 2 ] || wrong "check takes a row with a halfword that the SDRAM does not have"
 grep -q '^script error: line 14, slot 231: ' $work/message || wrong "check does not name line and slot: $(cat $work/message)"
 echo "check tells a script's error from a claim's failure"
+
+# --- Tapes: the claims of document 02, (ii), on scripts and tapes of the program's own.
+: >$work/records
+for seed in 1 2 3 4 5 6 7 8; do
+    ./tapes.sh "$program" $seed >$work/message || wrong "tapes, seed $seed: $(cat $work/message)"
+    "$program" random-tape $seed 3000 >$work/tape
+    "$program" random-tape $seed 3000 | cmp -s - $work/tape || wrong "seed $seed gives two random tapes"
+    "$program" read <$work/tape | sed '$d' >$work/lines
+    [ "$(wc -l <$work/lines)" = 3000 ] || wrong "random-tape $seed 3000 does not give 3000 records"
+    cat $work/lines >>$work/records
+done
+for record in 'ACT 255 65535' 'READ 255 ' 'WRT 255 ' 'PRE 255$' 'DEAC$' 'REFR$' 'MRS 65535$' 'MRS 0$' 'NOP 1$' 'NOP 256$' 'NOP 65534$' 'NOP 65535$'; do
+    grep -q "^[0-9]* $record" $work/records || wrong "no random tape comes by '$record'"
+done
+awk '/ NOP 65535$/{ full++; next } / NOP /{ if (full >= 2) after["a shorter run"] = 1 } !/ NOP /{ if (full >= 2) after["a command"] = 1 } { full = 0 }
+    END { exit !("a shorter run" in after && "a command" in after) }' $work/records || wrong "no random tape has full runs before a shorter one and before a command"
+echo "tapes: every claim holds on 8 scripts of 20000 calls, on random tapes, which come by every kind and by full runs, and on a tape of 2^32 slots and more"
+
+# --- The longest run that a script can have: RR 8191 gives 65528 NOPs. In rows of 4096, in rows of 4095 with a single slot between them, in single slots.
+long_script() { # rows' LENGTH, SINGLE slots after each
+    echo 'config 0x4400 0 8191 0'
+    awk -v length_="$1" -v single="$2" 'BEGIN {
+        for (slots = 0; slots < 65560; slots += length_ + single) {
+            for (n = 0; n < length_; n++) printf "%s%d%s", n % 100 ? " " : "bus ", n % 7, n % 100 == 99 || n == length_ - 1 ? "\n" : ""
+            print "slots 4096 4096"
+            for (n = 0; n < single; n++) print "slot 0"
+        }
+    }'
+}
+for shape in '4096 0' '4095 1' '4096 5' '1 400' '333 0'; do
+    # shellcheck disable=SC2086
+    long_script $shape >$work/script
+    "$program" tape <$work/script | "$program" read >$work/lines
+    [ "$(sed -n 1,2p $work/lines | tr '\n' ,)" = '1 NOP 65528,65529 DEAC,' ] || wrong "the longest run, rows of $shape: $(head -n 2 $work/lines)"
+done
+echo "tapes: a run of 65528 slots goes on over rows and single slots"
+
+# --- What a person is told.
+# says STATUS TEXT COMMAND ..: on the input in $work/script
+says() {
+    expected=$1
+    text=$2
+    shift 2
+    status=0
+    "$program" "$@" <$work/script >/dev/null 2>$work/message || status=$?
+    [ $status = "$expected" ] || wrong "$* ends with $status, not $expected"
+    grep -q "$text" $work/message || wrong "$* does not say '$text': $(cat $work/message)"
+}
+cp examples/tape-only-slots.script $work/script
+says 0 'line 25 is a second accepted config' tape
+cp examples/tape-none.script $work/script
+says 0 'no config is accepted' tape
+"$program" random-tape 1 3000 | head -c 4097 >$work/script
+says 2 'more than 4096 bytes' damage
+head -c 4096 $work/script >$work/tape
+[ "$("$program" damage <$work/tape | head -n 1)" = 'cut 0 end 0' ] || wrong "damage refuses 4096 bytes"
+says 2 usage
+says 2 usage tapes
+says 2 usage random-tape 1
+says 2 usage spoil 1x
+echo "tapes: messages and statuses"

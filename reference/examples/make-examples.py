@@ -1,7 +1,7 @@
 #!/usr/bin/env python3
-"""Writes the example scripts and their expected lines into this folder.
+"""Writes the example scripts and tapes and their expected lines into this folder.
 
-Every figure below was taken from document 01 or worked out from its rules by hand; this program only
+Every figure below was taken from document 01 or 02 or worked out from its rules by hand; this program only
 writes out the stretches of NOP between them. It knows nothing of the reference program but the first
 contents of a cell, which scripts for `check` have to go by (README.md).
 """
@@ -18,10 +18,22 @@ def first_contents(bank, row, column):
     return ((((bank << 24 | row << 11 | column) + 1) * 2654435769) % 2**32) >> 16
 
 
+def store_lines(name, lines):
+    with open(os.path.join(HERE, name), "wb") as file:
+        file.write(b"".join(line if isinstance(line, bytes) else line.encode() + b"\n" for line in lines))
+
+
 def store(name, script, expected):
-    for ending, lines in ((".script", script), (".expected", expected)):
-        with open(os.path.join(HERE, name + ending), "wb") as file:
-            file.write(b"".join(line if isinstance(line, bytes) else line.encode() + b"\n" for line in lines))
+    store_lines(name + ".script", script)
+    store_lines(name + ".expected", expected)
+
+
+def tape(name, records, shown=None, damaged=None):
+    """A tape, given by its bytes in hexadecimal; the lines that show it; and how it ends where it is damaged."""
+    store_lines(name + ".tape", [bytes.fromhex(records)])
+    for ending, lines in ((".shown", shown), (".damaged", damaged)):
+        if lines is not None:
+            store_lines(name + ending, lines)
 
 
 def dialogue(name, pairs):
@@ -648,6 +660,102 @@ def slots_form():
     store("slots-form", [b"\n".join(line for line, _ in lines)], expected)
 
 
+def tape_e5():
+    """Document 02, (ii): its slots 217 to 229. The 216 NOPs before them are run by four calls; the read's data is in 232."""
+    run = e1_machine()
+    run.write(1, "0", 7)
+    run.read(1, "0")
+    run.at(228, "ACT 0 0")
+    run.written(229, 1, 0, 0, 7)
+    run.at(230, "READ 0 0")
+    run.data(232, 2, 7)
+    run.row(1, 100, commands=1)
+    run.row(101, 99, reports=1)
+    run.row(201, 15, halfwords=1, reports=1)    # 216 is a call of its own
+    run.row(217, 10)                            # DEAC to MRS
+    run.row(227, 1)
+    run.row(232, 5)
+    run.store("tape-E5", 240)
+    refr = ["%d REFR" % slot for slot in range(218, 225 + 1)]
+    tape("tape-E5", "00 d8 00" + "05" + 8 * "06" + "07 20 00" + "00 01 00" + "01 00 00 00" + "03 00 00 00 07 00" + "02 00 00 00" + "00 0a 00",
+         ["1 NOP 216", "217 DEAC"] + refr + ["226 MRS 32", "227 NOP 1", "228 ACT 0 0", "229 WRT 0 0 7", "230 READ 0 0", "231 NOP 10", "end 240"])
+
+
+def tape_e7():
+    """E7's slots with rows, columns, banks and halfwords that take their places: the device's last cell, and the cell before it in each part.
+    4 banks, 13 row bits, 11 column bits; E4's distances, so that the accesses follow each other as in E7 and E8."""
+    run, s = e4_machine(), E4_FIRST
+    run.words = "0x4623 4 136 0x42215810"
+    run.write(1, "0x7FFFFFE", 0xABCD)                  # bank 3, row 8191, column 2047
+    run.write(1, "0x7FFBFFC", 0x1234)                  # bank 3, row 8190, column 2046
+    run.at(s, "ACT 3 8191")
+    run.written(s + 3, 1, 3, 2047, 0xABCD)
+    run.at(s + 6, "PRE 3")
+    run.at(s + 9, "ACT 3 8190")
+    run.written(s + 12, 2, 3, 2046, 0x1234)
+    run.store("tape-E7", s + 12)
+    refr = 7 * "06 00 08 00"                           # the next one 9 slots later
+    tape("tape-E7", "00 40 04" + "05 00 02 00" + refr + "06 00 08 00" + "07 30 00" + "00 01 00" + "01 03 ff 1f" + "00 02 00" + "03 03 ff 07 cd ab" +
+         "00 02 00" + "04 03" + "00 02 00" + "01 03 fe 1f" + "00 02 00" + "03 03 fe 07 34 12")
+
+
+def tape_only_slots():
+    """What is no slot leaves nothing on the tape, and a run goes on over it. All slots are of the start, NOP."""
+    def rows(count):
+        return ("slots %d %d" % (count, count), "\n".join(["slots 0 %d" % count] + count * ["slot 0 NOP -"]))
+
+    dialogue("tape-only-slots", [
+        # The blank machine: no slot.
+        ("slot 5", "slot 8 NOP -"), ("bus 1 2", "bus 2"), ("slots 2 2", "slots 8 0"), ("config 0x4400 0 26 0", "config 3"), ("slot 5", "slot 8 NOP -"),
+        ("slot", "error 6"), ("config " + E1_WORDS, "config 0"),
+        # 1 + 3 + 0 + 2 + 1 slots.
+        ("slot 5", "slot 0 NOP -"), ("slot 65536", "error 9"), ("read 1", "read 4 0"), ("bus 1 2 3", "bus 3"), rows(3), rows(0), ("backlog", "backlog 0 0"),
+        ("bus 1 2", "bus 2"), ("slots 4097 1", "error 16"), ("read 0", "read 0 1"), rows(2), ("cell 0x4400 0 2", "cell 0 0 0 1"), ("slot 5", "slot 0 NOP -"),
+        # A refused configuration: the blank machine again, and the tape is not ended, but there are no slots either.
+        ("config 0x4400 0 26 0", "config 3"), ("slot 5", "slot 8 NOP -"), ("bus 1", "bus 1"), ("slots 1 1", "slots 8 0"),
+        # A second accepted one ends it.
+        ("config " + E1_WORDS, "config 0"), ("slot 5", "slot 0 NOP -"), ("slot 5", "slot 0 NOP -")])
+    tape("tape-only-slots", "00 07 00", ["1 NOP 7", "end 7"])
+    dialogue("tape-none", [("slot 5", "slot 8 NOP -"), ("config 0x4400 0 26 0", "config 3"), ("slot 5", "slot 8 NOP -")])
+    tape("tape-none", "", ["end 0"], ["cut 0 end 0"])
+    dialogue("tape-two-configs", [("config " + E1_WORDS, "config 0")] + 5 * [("slot 5", "slot 0 NOP -")] +
+             [("config " + E4_WORDS, "config 0")] + 3 * [("slot 5", "slot 0 NOP -")])
+    tape("tape-two-configs", "00 05 00")
+
+
+def tapes():
+    """Tapes that no machine of ours gives, and refused ones."""
+    tape("tape-kinds", "01 ff fe ff" "02 80 34 12" "03 7f 01 00 00 80" "04 ff" "05" "06" "07 ff ff" "00 00 01" "01 00 00 00" "00 01 00" "05" "05",
+         ["1 ACT 255 65534", "2 READ 128 4660", "3 WRT 127 1 32768", "4 PRE 255", "5 DEAC", "6 REFR", "7 MRS 65535", "8 NOP 256", "264 ACT 0 0",
+          "265 NOP 1", "266 DEAC", "267 DEAC", "end 267"])
+    # 65,535 three times and 2; DEAC; 65,535; DEAC; 65,534; DEAC; 65,535 twice.
+    tape("tape-runs", "00ffff 00ffff 00ffff 000200 05 00ffff 05 00feff 05 00ffff 00ffff",
+         ["1 NOP 65535", "65536 NOP 65535", "131071 NOP 65535", "196606 NOP 2", "196608 DEAC", "196609 NOP 65535", "262144 DEAC", "262145 NOP 65534",
+          "327679 DEAC", "327680 NOP 65535", "393215 NOP 65535", "end 458749"])
+    # Kind 8 with bytes behind it and as the last byte, which is not 12.
+    tape("tape-kind-8", "05 08 00 00 00 00 00", ["1 DEAC", "refused 11 1"])
+    tape("tape-kind-8-last", "04 03 08", ["1 PRE 3", "refused 11 2"])
+    tape("tape-kind-255", "ff", ["refused 11 0"])
+    # A cut body: of WRT by one byte, of PRE by its only byte.
+    tape("tape-cut", "05 03 01 02 03 04", ["1 DEAC", "refused 12 1"])
+    tape("tape-cut-pre", "00 03 00 04", ["1 NOP 3", "refused 12 3"])
+    # A cut run after a shorter one is 12 still.
+    tape("tape-cut-run", "00 03 00 00 05", ["1 NOP 3", "refused 12 3"])
+    tape("tape-count-0", "05 00 00 00 05", ["1 DEAC", "refused 13 1"])
+    tape("tape-count-0-after-full", "00 ff ff 00 00 00", ["1 NOP 65535", "refused 13 3"])
+    tape("tape-run-after-shorter", "06 00 fe ff 00 01 00 05", ["1 REFR", "2 NOP 65534", "refused 13 4"])
+    # DEAC: 0 to 4 and 7 have a body that is not there, 8 and above are no kinds.
+    ends = {5: "end 1", 6: "end 1"}
+    tape("tape-deac", "05", ["1 DEAC", "end 1"], ["cut 0 end 0", "cut 1 end 1"] +
+         ["change 0 %d %s" % (value, ends.get(value, "refused 12 0" if value < 8 else "refused 11 0")) for value in range(256)])
+    # One NOP: with kind 4 it is PRE 1 and a cut run, with 5 or 6 a command without a body and a cut ACT, with 7 MRS 1. Then the count.
+    ends = {0: "end 1", 4: "refused 12 2", 5: "refused 12 1", 6: "refused 12 1", 7: "end 1"}
+    tape("tape-nop", "00 01 00", ["1 NOP 1", "end 1"], ["cut 0 end 0", "cut 1 refused 12 0", "cut 2 refused 12 0", "cut 3 end 1"] +
+         ["change 0 %d %s" % (value, ends.get(value, "refused 12 0" if value < 8 else "refused 11 0")) for value in range(256)] +
+         ["change 1 %d %s" % (value, "end %d" % value if value > 0 else "refused 13 0") for value in range(256)] +
+         ["change 2 %d end %d" % (value, 1 + 256 * value) for value in range(256)])
+
+
 def last_number():
     """For a build whose last request number is 8: 6 comes before 7, and 7 stays."""
     run = e1_machine()
@@ -668,5 +776,5 @@ if __name__ == "__main__":
     e1_to_e4()
     for example in (e5, e6, e7, e8, e9, e10, e11, e12, must_run, must_only_at_a_choice, need_with_blocked_read,
                     write_before_release, oldest_read_first, tight_distances, unlike_distances, geometries, numbers, form, slots, slots_one_row, slots_must_run,
-                    slots_form, last_number):
+                    slots_form, tape_e5, tape_e7, tape_only_slots, tapes, last_number):
         example()

@@ -4,6 +4,7 @@
 
 #include <stdint.h>
 
+/* Numbered as the kinds of a tape's records are: document 02, (ii). */
 enum command_kind { NOP, ACT, READ, WRT, PRE, DEAC, REFR, MRS };
 
 /* A field that the kind does not name is 0. */
@@ -16,5 +17,8 @@ struct command {
 };
 
 enum { MOST_BANKS = 4 };
+
+/* As REPLAY.md, "Output", has it. */
+void print_command(struct command x);
 
 #endif

@@ -1,6 +1,6 @@
 /*
- * Damaged builds. `-DDAMAGE=NAME` builds the program with one thing wrong in its machine or in its
- * register words; the plain SDRAM, the flat memory and the claims stay as they are. The self-test wants
+ * Damaged builds. `-DDAMAGE=NAME` builds the program with one thing wrong in its machine, in its
+ * register words or in its tapes; the plain SDRAM, the flat memory and the claims stay as they are. The self-test wants
  * each of them found. An ordinary build is SOUND, and every line below then has no effect.
  *
  * damages.sh takes the names from the enum, one a line.
@@ -123,7 +123,46 @@ enum damage {
     REPORTS_ONE_LATE,   /* within the row */
     FIRST_SLOT_TWICE,
     LAST_SLOT_LEFT_OUT, /* but counted, as NOP */
-    PLACE_BEYOND_WRITTEN
+    PLACE_BEYOND_WRITTEN,
+
+    /* A script's tape. */
+    REFUSED_SLOT_RECORDED,
+    SLOTS_OF_ROWS_LEFT_OUT,
+    RUN_ENDS_WITH_ROW,          /* a run is not carried on over `slots` calls */
+    SECOND_CONFIG_GOES_ON,      /* its slots follow those of the first */
+    REFUSED_CONFIG_COUNTS,      /* as the first one */
+    REFUSED_CONFIG_PASSED_OVER, /* the machine goes on */
+    ERROR_LINE_ENDS_TAPE,
+
+    /* Writing tapes. The three with WITH read the same form that they write. */
+    HIGH_BYTE_FIRST,
+    PRE_WITHOUT_BANK,
+    WRT_WITHOUT_HALFWORD,
+    HALFWORD_BEFORE_COLUMN,
+    MRS_WITH_BANK,
+    RUN_OF_65536,
+    RUN_OF_65534,
+    LAST_RUN_LOST,
+
+    /* Reading tapes. */
+    HIGH_BYTE_READ_FIRST,
+    BANK_OF_TWO_BITS, /* of ACT */
+    ROW_OF_13_BITS,
+    KIND_8_LET_THROUGH,   /* as NOP */
+    CUT_BODY_LET_THROUGH, /* the rest is 0 */
+    CUT_BODY_IS_END,
+    COUNT_0_LET_THROUGH,
+    RUN_AFTER_SHORTER_LET_THROUGH,
+    RUN_AFTER_65534_LET_THROUGH,
+    RUN_AFTER_FULL_REFUSED,
+    RUN_KEPT_OVER_COMMANDS, /* a run after a command counts as a run after a run */
+    CUT_BEFORE_KIND,        /* 12 before 11 */
+    RUN_BEFORE_CUT,         /* 13 before 12 */
+    PLACE_AFTER_KIND,
+    RUN_COUNTS_ONE_SLOT,
+    SLOT_FROM_0,
+    SLOT_OF_RUNS_END,
+    SLOTS_OF_32_BITS
 };
 
 #ifndef DAMAGE

@@ -6,6 +6,7 @@
 #include <string.h>
 
 #include "machine.h"
+#include "random.h"
 #include "script.h"
 #include "sdram.h"
 #include "words.h"
@@ -24,24 +25,17 @@ struct author {
     struct rows rows;   /* its halfwords are those that wait */
 };
 
-/* ---- Random numbers: splitmix64 ---- */
+/* ---- Random numbers ---- */
 
 static uint64_t draw64(struct author *a)
 {
-    uint64_t z = a->random += UINT64_C(0x9E3779B97F4A7C15);
-
-    z = (z ^ (z >> 30)) * UINT64_C(0xBF58476D1CE4E5B9);
-    z = (z ^ (z >> 27)) * UINT64_C(0x94D049BB133111EB);
-    return z ^ (z >> 31);
+    return random_next(&a->random);
 }
 
-/*
- * One of 0 to below - 1. Two draws never stand where C leaves their order open: a seed has to give the
- * same script with every compiler.
- */
+/* One of 0 to below - 1. */
 static uint32_t draw(struct author *a, uint32_t below)
 {
-    return (uint32_t)(draw64(a) % below);
+    return random_below(&a->random, below);
 }
 
 static bool once_in(struct author *a, uint32_t times)

@@ -1,11 +1,15 @@
-/* Plays a script on one machine and prints REPLAY.md's lines. */
+/* Plays a script on one machine. */
 #ifndef PLAY_H
 #define PLAY_H
 
-#include <stdbool.h>
 #include <stdio.h>
 
-/* With `checking`, the run is held against the third condition as it goes; see check.h. */
-void play(FILE *file, bool checking);
+enum purpose {
+    LINES,         /* prints REPLAY.md's lines */
+    CHECKED_LINES, /* the same, and the run is held against the third condition as it goes; see check.h */
+    TAPE           /* prints the tape of the slots from the first accepted configuration on, up to a second one */
+};
+
+void play(FILE *file, enum purpose purpose);
 
 #endif

@@ -17,7 +17,10 @@ enum number {
     NUMBERS_USED_UP = 7,
     BLANK = 8,
     UNSOUND = 9,
-    OUTSIDE_GEOMETRY = 10
+    OUTSIDE_GEOMETRY = 10,
+    KIND_ABOVE_7 = 11, /* 11 to 13 are the tape reader's: document 02, (ii) */
+    BODY_CUT = 12,
+    RUN_MISSPELLED = 13
 };
 
 struct words {
