@@ -7,7 +7,8 @@ use native.Mathlib.Nat.{div-div-eq-div-mul}
 use lib.Dec.{eqb, ltb}
 use borrow.Author.Tests.{ltb-true, ltb-false, eqb-true, eqb-false, eq-eqb, ne-eqb}
 use Rattle.device.proofs.Tests.{by-test}
-use Rattle.packing.specs.Packing.{wordOf, kindOf, bankOf, lowOf, highOf, commandWord, commandIn, packsCommand, limitOf}
+use Rattle.packing.specs.Packing.{wordOf, kindOf, bankOf, lowOf, highOf, commandWord, commandIn, packsCommand}
+use Rattle.packing.specs.Limits.{limitOf}
 
 -- what holds of the kinds 0 to 7 and of every other
 by-kind : (P : ℕ → Type 0) → P 0 → P 1 → P 2 → P 3 → P 4 → P 5 → P 6 → P 7 → ((k : ℕ) → 7 < k → P k) → (k : ℕ) → P k

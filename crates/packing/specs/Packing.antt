@@ -50,18 +50,6 @@ commandIn w =
 unfoldable pub packsCommand : ℕ → Bool
 packsCommand w = eqb (commandWord (commandIn w)) w
 
--- the words of each kind's commands lie below this; the code's test, which `packs-is` of proofs/Limits.antt shows to be the one above
-unfoldable pub limitOf : ℕ → ℕ
-limitOf kind =
-    cond (eqb kind 0) 1
-    (cond (eqb kind 1) 4294967296
-    (cond (eqb kind 2) 4294967296
-    (cond (eqb kind 3) 281474976710656
-    (cond (eqb kind 4) 65536
-    (cond (eqb kind 5) 6
-    (cond (eqb kind 6) 7
-    (cond (eqb kind 7) 4294967296 0)))))))
-
 -- Reports. A read's halfword is the low number, and a request's number the high one.
 
 unfoldable pub reportWord : Report → ℕ

@@ -5,12 +5,12 @@ use address::Row;
 use command::Command;
 use plan::Report;
 ghost use mathlib.Core.Path.{_≡_};
+ghost use Rattle.packing.specs.Limits.{limitOf};
 ghost use Rattle.packing.specs.Packing.{
   wordOf,
   commandWord,
   commandIn,
   packsCommand,
-  limitOf,
   reportWord,
   reportIn,
   packsReport,

@@ -1,8 +1,7 @@
 -- Tapes with their slots, and tapes that are refused.
-use Prim.Native.Nat.{ℕ, _+_}
+use Prim.Native.Nat.{ℕ}
 use mathlib.Core.Path.{_≡_, refl}
-use mathlib.Core.List.{List, [], _∷_, _++_, map}
-use lib.ListN.{replicate}
+use mathlib.Core.List.{List, [], _∷_, map}
 use Rattle.command.specs.declared.Command.{Command}
 use Rattle.command.specs.declared.Command.the-variants.{Nop, Act, Read, Wrt, Pre, Deac, Refr, Mrs}
 use Rattle.tape.specs.Writing.{runBytes, commandBytes, slotPiece, pieceOf, tapeAfter, tapeOf}
@@ -16,13 +15,11 @@ use Rattle.tape.specs.Reading.{
   commandOf,
   wrongRun,
   recordNumber,
-  Step,
   recordAt,
   kindAt,
   restAt,
   stepOf,
   contentsFrom,
-  Contents,
   contentsOf,
 }
 
@@ -91,7 +88,13 @@ pub record Exampled : Type 0 where
       ∷ []
   -- any place and any run may stand in a reader
   pub anywhere : map (λ (before : ℕ). stepOf (0 ∷ 1 ∷ 2 ∷ []) 0 before .answer) (0 ∷ 1 ∷ 65534 ∷ 65535 ∷ []) ≡ run 513 ∷ refusal 13 0 ∷ refusal 13 0 ∷ run 513 ∷ []
-  pub within : map (λ (at : ℕ). stepOf (0 ∷ 5 ∷ 4 ∷ []) at 7 .answer) (0 ∷ 1 ∷ 2 ∷ 3 ∷ 4 ∷ []) ≡ refusal 13 0 ∷ command Deac ∷ refusal 12 2 ∷ end ∷ end ∷ []
+  pub within : map (λ (at : ℕ). stepOf (0 ∷ 5 ∷ 4 ∷ []) at 7) (0 ∷ 1 ∷ 2 ∷ 3 ∷ 4 ∷ [])
+      ≡ record { answer = refusal 13 0; at = 0; before = 7 }
+      ∷ record { answer = command Deac; at = 2; before = 0 }
+      ∷ record { answer = refusal 12 2; at = 2; before = 7 }
+      ∷ record { answer = end; at = 3; before = 7 }
+      ∷ record { answer = end; at = 4; before = 7 }
+      ∷ []
 
 pub tape-examples : Exampled
 unfolding runBytes commandBytes slotPiece pieceOf tapeAfter bodyLength commandOf wrongRun recordNumber recordAt kindAt restAt stepOf contentsFrom

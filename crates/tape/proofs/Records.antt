@@ -58,12 +58,12 @@ unfolding kindAt recordNumber
 record-read at before kind rest k b w = simp (le-ltb 7 kind k, le-ltb (length rest) (bodyLength kind) b, w)
 
 pub record-refused : (at before kind : ℕ) (rest : List ℕ) (number : ℕ) → 0 < number → recordNumber before kind rest ≡ number
-    → kindAt at before kind rest ≡ record { answer = refusal number at; at = at; run = before }
+    → kindAt at before kind rest ≡ record { answer = refusal number at; at = at; before = before }
 unfolding kindAt
 record-refused at before kind rest number h e = simp (e, ne-eqb number 0 (λ z. omega arith))
 
 pub command-read : (at before : ℕ) {bytes : List ℕ} {k : Command} → Spelt bytes k → (rest : List ℕ)
-    → restAt at before (bytes ++ rest) ≡ record { answer = command k; at = at + length bytes; run = 0 }
+    → restAt at before (bytes ++ rest) ≡ record { answer = command k; at = at + length bytes; before = 0 }
 unfolding restAt bodyLength recordAt commandOf
 command-read at before (act e) rest = record-read at before 1 _ (omega arith) (omega arith) refl ∙ rw e
 command-read at before (read e) rest = record-read at before 2 _ (omega arith) (omega arith) refl ∙ rw e
@@ -93,21 +93,21 @@ right-run before (suc n) w = (
 )
 
 pub run-read : (at before low high n : ℕ) (rest : List ℕ) → low + 256 * high ≡ n → 0 < n → Free before
-    → restAt at before (0 ∷ low ∷ high ∷ rest) ≡ record { answer = run n; at = at + 3; run = n }
+    → restAt at before (0 ∷ low ∷ high ∷ rest) ≡ record { answer = run n; at = at + 3; before = n }
 unfolding restAt bodyLength recordAt
 run-read at before low high n rest e h f =
     record-read at before 0 _ (omega arith) (omega arith) (run-right before _ (omega arith) f) ∙ rw e
 
 -- What is found on the rest of a tape. Any refusal but that of a cut record is the same where the tape goes on.
 pub data Found (at before : ℕ) : List ℕ → Step → Type 0 where
-  ended : Found at before [] (record { answer = end; at = at; run = before })
+  ended : Found at before [] (record { answer = end; at = at; before = before })
   refused : {kind : ℕ} {rest : List ℕ} (number : ℕ) → 0 < number → recordNumber before kind rest ≡ number
       → ((more : List ℕ) → (number ≡ 12 → ⊥) → recordNumber before kind (rest ++ more) ≡ number)
-      → Found at before (kind ∷ rest) (record { answer = refusal number at; at = at; run = before })
+      → Found at before (kind ∷ rest) (record { answer = refusal number at; at = at; before = before })
   ran : {low high n : ℕ} (rest : List ℕ) → low + 256 * high ≡ n → 0 < n → Free before
-      → Found at before (0 ∷ low ∷ high ∷ rest) (record { answer = run n; at = at + 3; run = n })
+      → Found at before (0 ∷ low ∷ high ∷ rest) (record { answer = run n; at = at + 3; before = n })
   commanded : {bytes : List ℕ} {k : Command} (rest : List ℕ) → Spelt bytes k
-      → Found at before (bytes ++ rest) (record { answer = command k; at = at + length bytes; run = 0 })
+      → Found at before (bytes ++ rest) (record { answer = command k; at = at + length bytes; before = 0 })
 
 -- so many elements at least, as a type to match on
 data Holds : ℕ → List ℕ → Type 0 where

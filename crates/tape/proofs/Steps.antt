@@ -25,7 +25,7 @@ module _ {at before : ℕ} where
   found-on (ran rest e p f) g = (omega arith, omega arith)
   found-on (commanded {bytes} rest k) g = (omega (arith, spelt-some k), omega (arith, length-append bytes rest))
 
-  found-stays : {left : List ℕ} {s : Step} → Found at before left s → goesOn (s .answer) ≡ false → (s .at ≡ at) × (s .run ≡ before)
+  found-stays : {left : List ℕ} {s : Step} → Found at before left s → goesOn (s .answer) ≡ false → (s .at ≡ at) × (s .before ≡ before)
   found-stays ended g = (refl, refl)
   found-stays (refused number h r f) g = (refl, refl)
   found-stays (ran rest e p f) g = absurd (true≢false g)
@@ -38,13 +38,13 @@ module _ {at before : ℕ} where
   found-refused number place (ran rest _ p f) e = never (cc)
   found-refused number place (commanded rest k) e = never (cc)
 
-  found-command : (k : Command) {left : List ℕ} {s : Step} → Found at before left s → s .answer ≡ command k → (s .run ≡ 0) × (isNop k ≡ false)
+  found-command : (k : Command) {left : List ℕ} {s : Step} → Found at before left s → s .answer ≡ command k → (s .before ≡ 0) × (isNop k ≡ false)
   found-command k ended e = never (cc)
   found-command k (refused n h r f) e = never (cc)
   found-command k (ran rest _ p f) e = never (cc)
   found-command k (commanded rest t) e = (refl, cc (spelt-other t))
 
-  found-run : (n : ℕ) {left : List ℕ} {s : Step} → Found at before left s → s .answer ≡ run n → (s .run ≡ n) × (0 < n)
+  found-run : (n : ℕ) {left : List ℕ} {s : Step} → Found at before left s → s .answer ≡ run n → (s .before ≡ n) × (0 < n)
   found-run n ended e = never (cc)
   found-run n (refused _ h r f) e = never (cc)
   found-run n (ran {n = count} rest _ p f) e =
@@ -103,7 +103,7 @@ unfolding contentsFrom
 whole zero tape at before h = rw (ends tape at before .0 (omega arith))
 whole (suc n) tape at before h =
     by-test (goesOn (stepOf tape at before .answer))
-    (λ g. rw g (whole n tape (stepOf tape at before .at) (stepOf tape at before .run) (omega (arith, progress tape at before g .0))))
+    (λ g. rw g (whole n tape (stepOf tape at before .at) (stepOf tape at before .before) (omega (arith, progress tape at before g .0))))
     (λ g. rw g g)
 
 -- and the contents are the same for any numbers of records that are enough
@@ -116,11 +116,11 @@ enough (suc m) (suc n) tape at before h l =
     by-test (goesOn (stepOf tape at before .answer))
     (λ g.
     let p = progress tape at before g .0 in
-    rw (g, enough m n tape (stepOf tape at before .at) (stepOf tape at before .run) (omega arith) (omega arith)))
+    rw (g, enough m n tape (stepOf tape at before .at) (stepOf tape at before .before) (omega arith) (omega arith)))
     (λ g. rw g)
 
 pub steps : Steps
-unfolding stepOf
+unfolding stepOf contentsFrom
 steps =
     record {
       progress = progress;
@@ -134,4 +134,5 @@ steps =
       moved = λ gone tape at before. rw drop-append-add (found-moved (length gone) (found at before (drop at tape)));
       whole = λ tape. whole (length tape) tape 0 0 (omega arith);
       enough = λ n tape at before h. enough n (length tape) tape at before h (omega arith);
+      unfolds = λ tape at before. enough (length tape) (suc (length tape)) tape at before (omega arith) (omega arith);
     }

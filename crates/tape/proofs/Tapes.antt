@@ -10,7 +10,7 @@ use Rattle.command.specs.declared.Command.{Command}
 use Rattle.command.specs.declared.Command.the-variants.{Nop, Act, Read, Wrt, Pre, Deac, Refr, Mrs}
 use Rattle.packing.specs.Laws.{FitsCommand}
 use Rattle.tape.specs.Writing.{pairOf, commandBytes, isNop, tapeOf}
-use Rattle.tape.specs.Reading.{end, Step, restAt, stepOf, slotsOf, goesOn, Contents, contentsFrom, contentsOf}
+use Rattle.tape.specs.Reading.{end, Step, restAt, stepOf, Contents, contentsFrom, contentsOf, followed}
 use Rattle.tape.specs.Laws.{Bytes, Fit, Accepted, Tapes}
 use Rattle.tape.proofs.Records.{never, Spelt, act, read, wrt, pre, deac, refr, mrs, spelt-some, command-read, run-read, Found, ended, refused, ran, commanded, found}
 use Rattle.tape.proofs.Steps.{ends}
@@ -63,10 +63,7 @@ spelt-written (mrs {w} {low} {high} e) rest s =
 
 -- the contents from a step on
 abbrev after : ℕ → List ℕ → Step → Contents
-after n tape s =
-    let later : Contents = contentsFrom n tape (s .at) (s .run) in
-    cond (goesOn (s .answer)) (record { slots = slotsOf (s .answer) ++ later .slots; last = later .last })
-    (record { slots = []; last = s .answer })
+after n tape s = followed (s .answer) (contentsFrom n tape (s .at) (s .before))
 
 -- what follows a record on the tape
 dropped : (tape : List ℕ) (at : ℕ) (bytes rest : List ℕ) → drop at tape ≡ bytes ++ rest → drop (at + length bytes) tape ≡ rest

@@ -18,6 +18,7 @@ use Rattle.tape.specs.Reading.{
   Step,
   stepOf,
   goesOn,
+  followed,
   contentsFrom,
   contentsOf,
 }
@@ -52,7 +53,7 @@ pub record Pieces : Type 0 where
   -- a run counts 65,535 at most
   pub limited : (n : ℕ) (slots : List Command) → n ≤ 65535 → pieceOf n slots .pending ≤ 65535
 
--- a step so many places further on
+-- so many places further on: an answer, and a step
 abbrev pub placedBy : ℕ → Answer → Answer
 placedBy n end = end
 placedBy n (command k) = command k
@@ -60,20 +61,20 @@ placedBy n (run c) = run c
 placedBy n (refusal number place) = refusal number (n + place)
 
 abbrev pub movedBy : ℕ → Step → Step
-movedBy n s = record { answer = placedBy n (s .answer); at = n + s .at; run = s .run }
+movedBy n s = record { answer = placedBy n (s .answer); at = n + s .at; before = s .before }
 
 -- The reader on any tape, at any place and after any run.
 pub record Steps : Type 0 where
   -- every record that is read takes the reader on, and not past the tape
   pub progress : (tape : List ℕ) (at before : ℕ) → goesOn (stepOf tape at before .answer) ≡ true → (at < stepOf tape at before .at) × (stepOf tape at before .at ≤ length tape)
   -- an end or a refusal leaves the reader as it was
-  pub stays : (tape : List ℕ) (at before : ℕ) → goesOn (stepOf tape at before .answer) ≡ false → (stepOf tape at before .at ≡ at) × (stepOf tape at before .run ≡ before)
+  pub stays : (tape : List ℕ) (at before : ℕ) → goesOn (stepOf tape at before .answer) ≡ false → (stepOf tape at before .at ≡ at) × (stepOf tape at before .before ≡ before)
   -- a refusal has its record's number and first place
   pub refused : (tape : List ℕ) (at before number place : ℕ) → stepOf tape at before .answer ≡ refusal number place
       → (0 < number) × (number ≡ recordNumber before (getD tape at 0) (drop (suc at) tape)) × (place ≡ at)
   -- after a command no run stands just before; after a run it is that run, which counts one at least; a NOP is never answered as a command
-  pub remembered : (tape : List ℕ) (at before : ℕ) (k : Command) → stepOf tape at before .answer ≡ command k → (stepOf tape at before .run ≡ 0) × (isNop k ≡ false)
-  pub counted : (tape : List ℕ) (at before n : ℕ) → stepOf tape at before .answer ≡ run n → (stepOf tape at before .run ≡ n) × (0 < n)
+  pub remembered : (tape : List ℕ) (at before : ℕ) (k : Command) → stepOf tape at before .answer ≡ command k → (stepOf tape at before .before ≡ 0) × (isNop k ≡ false)
+  pub counted : (tape : List ℕ) (at before n : ℕ) → stepOf tape at before .answer ≡ run n → (stepOf tape at before .before ≡ n) × (0 < n)
   -- the end is found exactly at the tape's end and past it
   pub ends : (tape : List ℕ) (at before : ℕ) → (length tape ≤ at → stepOf tape at before .answer ≡ end) × (stepOf tape at before .answer ≡ end → length tape ≤ at)
   -- what is found on a tape is found too where the tape goes on, unless it is the end or a cut record
@@ -86,3 +87,6 @@ pub record Steps : Type 0 where
   -- every tape is read to its end or to a refusal, in no more records than are left bytes
   pub whole : (tape : List ℕ) → goesOn (contentsOf tape .last) ≡ false
   pub enough : (n : ℕ) (tape : List ℕ) (at before : ℕ) → length tape ≤ at + n → contentsFrom n tape at before ≡ contentsFrom (length tape) tape at before
+  -- so the contents from a place on are the step there and then the contents from where it leads
+  pub unfolds : (tape : List ℕ) (at before : ℕ)
+      → contentsFrom (length tape) tape at before ≡ followed (stepOf tape at before .answer) (contentsFrom (length tape) tape (stepOf tape at before .at) (stepOf tape at before .before))

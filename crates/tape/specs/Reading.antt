@@ -51,34 +51,34 @@ commandOf kind body =
 unfoldable pub wrongRun : ℕ → ℕ → Bool
 wrongRun before count = eqb count 0 || (ltb 0 before && ltb before 65535)
 
--- The number that a record gets: its kind, what follows the kind on the tape, and the run just before it. The lowest wins; 0 is for a record.
+-- The number that a record gets: its kind, what follows the kind on the tape, and the run just before it. The lowest wins; 0: the record is read.
 unfoldable pub recordNumber : ℕ → ℕ → List ℕ → ℕ
 recordNumber before kind rest =
     cond (ltb 7 kind) 11
     (cond (ltb (length rest) (bodyLength kind)) 12
     (cond (eqb kind 0 && wrongRun before (pairAt rest 0)) 13 0))
 
--- A step of the reader: its answer, and its place and the run just before it afterwards.
+-- A step of the reader: its answer, and afterwards its place and the count of the run just before it, else 0.
 pub record Step : Type 0 where
   pub answer : Answer
   pub at : ℕ
-  pub run : ℕ
+  pub before : ℕ
 
 -- the record at a place; a run is remembered, and 0 after any other record
 unfoldable pub recordAt : ℕ → ℕ → List ℕ → Step
 recordAt at kind rest =
-    cond (eqb kind 0) (record { answer = run (pairAt rest 0); at = at + 3; run = pairAt rest 0 })
-    (record { answer = command (commandOf kind rest); at = at + suc (bodyLength kind); run = 0 })
+    cond (eqb kind 0) (record { answer = run (pairAt rest 0); at = at + 3; before = pairAt rest 0 })
+    (record { answer = command (commandOf kind rest); at = at + suc (bodyLength kind); before = 0 })
 
 -- a refused record leaves the reader as it was
 unfoldable pub kindAt : ℕ → ℕ → ℕ → List ℕ → Step
 kindAt at before kind rest =
     let number : ℕ = recordNumber before kind rest in
-    cond (eqb number 0) (recordAt at kind rest) (record { answer = refusal number at; at = at; run = before })
+    cond (eqb number 0) (recordAt at kind rest) (record { answer = refusal number at; at = at; before = before })
 
 -- the reader on what is left of the tape from its place on
 unfoldable pub restAt : ℕ → ℕ → List ℕ → Step
-restAt at before [] = record { answer = end; at = at; run = before }
+restAt at before [] = record { answer = end; at = at; before = before }
 restAt at before (kind ∷ rest) = kindAt at before kind rest
 
 -- The reader at a place of a tape, after a run of so many NOPs (0: after no run). Past the tape there is nothing left.
@@ -105,15 +105,17 @@ pub record Contents : Type 0 where
   pub slots : List Command
   pub last : Answer
 
+-- an answer before what follows it: its slots come first, and an end or a refusal is the last
+abbrev pub followed : Answer → Contents → Contents
+followed a later =
+    cond (goesOn a) (record { slots = slotsOf a ++ later .slots; last = later .last })
+    (record { slots = []; last = a })
+
 -- from a place on, so many records
 unfoldable pub contentsFrom : ℕ → List ℕ → ℕ → ℕ → Contents
 contentsFrom zero tape at before = record { slots = []; last = stepOf tape at before .answer }
-contentsFrom (suc n) tape at before =
-    let s : Step = stepOf tape at before in
-    let later : Contents = contentsFrom n tape (s .at) (s .run) in
-    cond (goesOn (s .answer)) (record { slots = slotsOf (s .answer) ++ later .slots; last = later .last })
-    (record { slots = []; last = s .answer })
+contentsFrom (suc n) tape at before = let s : Step = stepOf tape at before in followed (s .answer) (contentsFrom n tape (s .at) (s .before))
 
--- all: no tape has more records than bytes (`whole` of Laws.antt)
+-- all: no tape has more records than bytes (`whole` and `unfolds` of Laws.antt)
 abbrev pub contentsOf : List ℕ → Contents
 contentsOf tape = contentsFrom (length tape) tape 0 0

@@ -7,7 +7,7 @@ pub enum Refusal {
     Kind,
     // 12: the tape ends within the body.
     Cut,
-    // 13: a run of no NOPs, or a run that belongs to the run before it.
+    // 13: a run of no NOPs, or one after a run of fewer than 65,535.
     Run,
 }
 
@@ -19,6 +19,6 @@ pub enum Item {
     Command(Command),
     // A run of so many NOPs.
     Run(u16),
-    // And the first place of the refused record.
+    // A refused record: why, and its first place.
     Refused(Refusal, usize),
 }

@@ -9,7 +9,7 @@ use lib.ListN.{length, getD, drop, length-drop, drop-of-length-le}
 use lib.Seq.{drop-cons, getD-drop}
 use borrow.Author.Tests.{lt-ltb, le-ltb, eq-eqb, ne-eqb}
 use Rattle.tape.specs.Reading.{end, command, run, refusal, bodyLength, commandOf, wrongRun, recordNumber, Step, recordAt, kindAt, restAt, stepOf}
-use Rattle.tape_decoder.specs.Decoder.{runStep, Whole}
+use Rattle.tape_decoder.specs.Shapes.{runStep, Whole}
 
 -- the bodies of kinds that are known by bounds
 
@@ -52,7 +52,7 @@ rest-at tape at i = rw getD-drop (ap (λ (n : ℕ). getD tape n 0) (omega arith)
 
 -- a step, by what is known of its place
 
-pub end-here : (tape : List ℕ) (at before : ℕ) → length tape ≤ at → stepOf tape at before ≡ record { answer = end; at = at; run = before }
+pub end-here : (tape : List ℕ) (at before : ℕ) → length tape ≤ at → stepOf tape at before ≡ record { answer = end; at = at; before = before }
 unfolding stepOf restAt
 end-here tape at before h = rw (drop-of-length-le tape h)
 
@@ -61,18 +61,18 @@ module _ (tape : List ℕ) (at before : ℕ) (here : at < length tape) where
   unfolding stepOf restAt
   kind-here = rw (drop-cons tape at 0 here)
 
-  pub refused-kind : 7 < getD tape at 0 → stepOf tape at before ≡ record { answer = refusal 11 at; at = at; run = before }
+  pub refused-kind : 7 < getD tape at 0 → stepOf tape at before ≡ record { answer = refusal 11 at; at = at; before = before }
   unfolding kindAt recordNumber
   refused-kind k = kind-here ∙ simp (lt-ltb _ _ k)
 
-  pub refused-cut : getD tape at 0 ≤ 7 → length tape - at - 1 < bodyLength (getD tape at 0) → stepOf tape at before ≡ record { answer = refusal 12 at; at = at; run = before }
+  pub refused-cut : getD tape at 0 ≤ 7 → length tape - at - 1 < bodyLength (getD tape at 0) → stepOf tape at before ≡ record { answer = refusal 12 at; at = at; before = before }
   unfolding kindAt recordNumber
   refused-cut k l = kind-here ∙ simp (le-ltb _ _ k, rest-length, lt-ltb _ _ l)
 
 -- a run with the number 13 or with none
 picked : (b : Bool) (at before count : ℕ)
-    → _≡_ {A = Step} (cond (eqb (cond b 13 0) 0) (record { answer = run count; at = at + 3; run = count }) (record { answer = refusal (cond b 13 0) at; at = at; run = before }))
-    (cond b (record { answer = refusal 13 at; at = at; run = before }) (record { answer = run count; at = at + 3; run = count }))
+    → _≡_ {A = Step} (cond (eqb (cond b 13 0) 0) (record { answer = run count; at = at + 3; before = count }) (record { answer = refusal (cond b 13 0) at; at = at; before = before }))
+    (cond b (record { answer = refusal 13 at; at = at; before = before }) (record { answer = run count; at = at + 3; before = count }))
 picked true at before count = refl
 picked false at before count = refl
 
@@ -84,7 +84,7 @@ module _ {tape : List ℕ} {at kind : ℕ} (w : Whole tape at kind) (before : �
       kind-here tape at before (w .here) ∙ simp (← w .is, le-ltb _ _ (w .known), rest-length, le-ltb _ _ (w .whole), eq-eqb _ _ z, rest-at) (picked (wrongRun before _) at before _)
 
   pub command-here : (k : ℕ) → kind ≡ suc k
-      → stepOf tape at before ≡ record { answer = command (commandOf (suc k) (drop (suc at) tape)); at = at + suc (bodyLength (suc k)); run = 0 }
+      → stepOf tape at before ≡ record { answer = command (commandOf (suc k) (drop (suc at) tape)); at = at + suc (bodyLength (suc k)); before = 0 }
   unfolding kindAt recordNumber recordAt
   command-here k e =
       let z : kind ≡ 0 → ⊥ = λ q. omega arith in

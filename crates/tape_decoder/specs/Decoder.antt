@@ -1,25 +1,7 @@
--- The decoder's code in the terms of the format (crate `tape`, specs/Reading.antt).
-use Prim.Native.Nat.{ℕ, _+_, _-_, _<_, _≤_}
-use mathlib.Core.Path.{_≡_}
-use mathlib.Core.List.{List}
-use mathlib.Core.Bool.{cond}
-use lib.ListN.{length, getD}
-use Rattle.tape.specs.Reading.{run, refusal, answerOf, bodyLength, wrongRun, Step}
+-- The decoder's answer in the terms of the format (crate `tape`, specs/Reading.antt).
+use Rattle.tape.specs.Reading.{answerOf, Step}
 use Rattle.tape_decoder.specs.declared.Found.{Found}
 
--- a step of the reader: what the decoder finds
+-- what is found, as a step of the reader
 abbrev pub stepIn : Found → Step
-stepIn f = record { answer = answerOf (f .item); at = f .at; run = f .run }
-
--- a run's record at a place
-unfoldable pub runStep : ℕ → ℕ → ℕ → Step
-runStep at before count =
-    cond (wrongRun before count) (record { answer = refusal 13 at; at = at; run = before })
-    (record { answer = run count; at = at + 3; run = count })
-
--- a record of a known kind, whole on the tape
-pub record Whole (tape : List ℕ) (at kind : ℕ) : Type 0 where
-  pub here : at < length tape
-  pub is : kind ≡ getD tape at 0
-  pub known : kind ≤ 7
-  pub whole : bodyLength kind ≤ length tape - at - 1
+stepIn f = record { answer = answerOf (f .item); at = f .at; before = f .before }

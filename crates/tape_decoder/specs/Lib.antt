@@ -1,2 +1,3 @@
 -- The decoder of records, as the code has it.
 pub mod Decoder
+pub mod Shapes

@@ -9,13 +9,14 @@ ghost use Prim.Native.Nat.{_+_, _*_, _<_};
 ghost use mathlib.Core.Path.{_≡_};
 ghost use lib.ListN.{length, getD};
 ghost use Rattle.tape.specs.Reading.{bodyLength, stepOf};
-ghost use Rattle.tape_decoder.specs.Decoder.{stepIn, runStep, Whole};
+ghost use Rattle.tape_decoder.specs.Decoder.{stepIn};
+ghost use Rattle.tape_decoder.specs.Shapes.{runStep, Whole};
 
-// What is read at a place, and the place and the run just before it afterwards.
+// What is read at a place, and afterwards the place and the count of the run just before it, else 0.
 pub struct Found {
     pub item: Item,
     pub at: usize,
-    pub run: u16,
+    pub before: u16,
 }
 
 // How many bytes follow a kind.
@@ -49,19 +50,23 @@ fn pair_at(tape: &[u8], at: usize) -> u16
 }
 
 // A refused record leaves the reader as it was.
-fn refused(why: Refusal, at: usize, run: u16) -> Found
-    ensures { λ r. ⌜ r ≡ record { item = Item.Refused why at; at = at; run = run } ⌝ }
+fn refused(why: Refusal, at: usize, before: u16) -> Found
+    ensures { λ r. ⌜ r ≡ record { item = Item.Refused why at; at = at; before = before } ⌝ }
 {
     let item = Item::Refused(why, at);
-    Found { item, at, run }
+    Found { item, at, before }
 }
 
 // After a command no run stands just before.
 fn sent(command: Command, at: usize) -> Found
-    ensures { λ r. ⌜ r ≡ record { item = Item.Command command; at = at; run = 0 } ⌝ }
+    ensures { λ r. ⌜ r ≡ record { item = Item.Command command; at = at; before = 0 } ⌝ }
 {
     let item = Item::Command(command);
-    Found { item, at, run: 0 }
+    Found {
+        item,
+        at,
+        before: 0,
+    }
 }
 
 // A run at a place, after another of so many NOPs, or after none.
@@ -80,17 +85,17 @@ fn run_at(at: usize, before: u16, count: u16) -> Found
     Found {
         item: Item::Run(count),
         at: at + 3,
-        run: count,
+        before: count,
     }
 }
 
 // A record of a known kind that the tape holds whole.
-fn record_at(tape: &[u8], at: usize, run: u16, kind: u8) -> Found
+fn record_at(tape: &[u8], at: usize, before: u16, kind: u8) -> Found
     requires { ⌜ Whole (now tape) at kind ⌝ }
-    ensures { λ r. ⌜ stepIn r ≡ stepOf (now (tape .entry)) at run ⌝ }
+    ensures { λ r. ⌜ stepIn r ≡ stepOf (now (tape .entry)) at before ⌝ }
 {
     if kind < 1 {
-        return run_at(at, run, pair_at(tape, at + 1));
+        return run_at(at, before, pair_at(tape, at + 1));
     }
     if 6 < kind {
         return sent(Command::Mrs(pair_at(tape, at + 1)), at + 3);
@@ -119,22 +124,22 @@ fn record_at(tape: &[u8], at: usize, run: u16, kind: u8) -> Found
 }
 
 // The record at a place of a tape, after a run of so many NOPs (0: after no run).
-pub fn read_at(tape: &[u8], at: usize, run: u16) -> Found
-    ensures { λ r. ⌜ stepIn r ≡ stepOf (now (tape .entry)) at run ⌝ }
+pub fn read_at(tape: &[u8], at: usize, before: u16) -> Found
+    ensures { λ r. ⌜ stepIn r ≡ stepOf (now (tape .entry)) at before ⌝ }
 {
     if tape.len() <= at {
         return Found {
             item: Item::End,
             at,
-            run,
+            before,
         };
     }
     let kind = tape[at];
     if 7 < kind {
-        return refused(Refusal::Kind, at, run);
+        return refused(Refusal::Kind, at, before);
     }
     if tape.len() - at - 1 < body_length(kind) {
-        return refused(Refusal::Cut, at, run);
+        return refused(Refusal::Cut, at, before);
     }
-    record_at(tape, at, run, kind)
+    record_at(tape, at, before, kind)
 }

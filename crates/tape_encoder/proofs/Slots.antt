@@ -2,7 +2,7 @@
 use Prim.Native.Nat.{ℕ, suc, _+_, _%_, _≤_, _<_}
 use mathlib.Core.Path.{_≡_, refl, sym}
 use mathlib.Core.Bool.{true, false}
-use mathlib.Core.List.{List, [], _∷_, _++_}
+use mathlib.Core.List.{[], _∷_, _++_}
 use native.Mathlib.Omega.{arith}
 use lib.Dec.{eqb, ltb}
 use lib.ListN.{length}
@@ -11,7 +11,7 @@ use Rattle.device.proofs.Tests.{by-test}
 use Rattle.command.specs.declared.Command.{Command}
 use Rattle.command.specs.declared.Command.the-variants.{Nop, Act, Read, Wrt, Pre, Deac, Refr, Mrs}
 use Rattle.packing.specs.Packing.{wordOf, kindOf, bankOf, lowOf, highOf, commandWord, commandIn, packsCommand}
-use Rattle.tape.specs.Writing.{pairOf, runBytes, commandBytes, isNop, Piece, slotPiece}
+use Rattle.tape.specs.Writing.{pairOf, runBytes, commandBytes, isNop, slotPiece}
 
 -- a word that packs a command is its word
 spelled : (w : ℕ) → packsCommand w ≡ true → commandWord (commandIn w) ≡ w

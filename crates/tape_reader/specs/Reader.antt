@@ -5,4 +5,4 @@ use Rattle.tape_reader.specs.declared.Reader.{Reader}
 
 -- a step of the reader: its answer, and the reader after it
 abbrev pub stepAfter : Item → Reader → Step
-stepAfter i r = record { answer = answerOf i; at = r .at; run = r .run }
+stepAfter i r = record { answer = answerOf i; at = r .at; before = r .before }

@@ -9,26 +9,26 @@ ghost use Rattle.tape_reader.specs.Reader.{stepAfter};
 pub struct Reader<'a> {
     pub tape: &'a [u8],
     pub at: usize,
-    pub run: u16,
+    pub before: u16,
 }
 
 // A reader at the beginning of a tape.
 pub fn new<'a>(tape: &'a [u8]) -> Reader<'a>
-    ensures { λ r. ⌜ (r .tape ≡ tape .entry) × (r .at ≡ 0) × (r .run ≡ 0) ⌝ }
+    ensures { λ r. ⌜ (r .tape ≡ tape .entry) × (r .at ≡ 0) × (r .before ≡ 0) ⌝ }
 {
     Reader {
         tape,
         at: 0,
-        run: 0,
+        before: 0,
     }
 }
 
 // The next record.
 pub fn next<'s, 'a>(r: &'s mut Reader<'a>) -> Item
-    ensures { λ i. ⌜ (now (r .exit) .tape ≡ now (r .entry) .tape) × (stepAfter i (now (r .exit)) ≡ stepOf (now (now (r .entry) .tape)) (now (r .entry) .at) (now (r .entry) .run)) ⌝ }
+    ensures { λ i. ⌜ (now (r .exit) .tape ≡ now (r .entry) .tape) × (stepAfter i (now (r .exit)) ≡ stepOf (now (now (r .entry) .tape)) (now (r .entry) .at) (now (r .entry) .before)) ⌝ }
 {
-    let found = read_at(r.tape, r.at, r.run);
+    let found = read_at(r.tape, r.at, r.before);
     r.at = found.at;
-    r.run = found.run;
+    r.before = found.before;
     found.item
 }

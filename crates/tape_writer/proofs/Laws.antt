@@ -2,12 +2,12 @@
 use Prim.Native.Nat.{ℕ}
 use mathlib.Core.Path.{_≡_, refl}
 use mathlib.Core.Bool.{true, cond}
-use mathlib.Core.List.{List, [], _∷_, map, map-append}
+use mathlib.Core.List.{List, [], _∷_, map}
 use native.Mathlib.Omega.{arith}
 use lib.Dec.{ltb}
 use lib.ListN.{length}
 use lib.Seq.{take-append-seam}
-use borrow.Author.Tests.{eqb-true}
+use borrow.Author.Tests.{eqb-true, ne-eqb}
 use Rattle.device.proofs.Tests.{if-both, both}
 use Rattle.command.specs.declared.Command.{Command}
 use Rattle.packing.specs.Packing.{commandWord, commandIn, packsCommand}
@@ -17,7 +17,7 @@ use Rattle.tape.specs.Laws.{Fit}
 use Rattle.tape.proofs.Pieces.{pieces}
 use Rattle.tape.proofs.Tapes.{tapes}
 use Rattle.tape_writer.specs.Writer.{slotsIn, allPack, Outcome, refusedOf, frontOf, writtenOf, extendedOf}
-use Rattle.tape_writer.specs.Laws.{tapeIn, Written}
+use Rattle.tape_writer.specs.Laws.{tapeIn, WriterLaws}
 
 -- Rows and their slots.
 
@@ -53,10 +53,25 @@ done words bytes lent =
     (λ t. if-both (Done words bytes) (ltb (length lent) (length bytes)) (λ _ z. absurd (omega arith)) (λ _ z. (t, take-append-seam bytes _)))
     (λ _ z. absurd (omega arith))
 
-pub written : Written
+-- A call that gives another number has written nothing.
+
+abbrev Kept : List ℕ → Outcome → Type 0
+Kept lent w = (w .number ≡ 0 → ⊥) → (w .length ≡ 0) × (w .bytes ≡ lent)
+
+kept : (words bytes lent : List ℕ) → Kept lent (cond (allPack words) (frontOf bytes lent) (refusedOf 20 lent))
+unfolding frontOf
+kept words bytes lent =
+    if-both (Kept lent) (allPack words) (λ _. if-both (Kept lent) (ltb (length lent) (length bytes)) (λ _ _. (refl, refl)) (λ _ n. absurd (n refl)))
+    (λ _ _. (refl, refl))
+
+pub writer-laws : WriterLaws
 unfolding writtenOf extendedOf
-written =
+writer-laws =
     record {
+      finished = λ n words lent z. done words _ lent z .1;
+      continued = λ n words lent later z. rw (done words _ lent z .1, z, pieces .continued n (slotsIn words) later);
+      kept = λ n words lent z. kept words _ lent z;
+      piece-kept = λ n words lent z. let k = kept words _ lent z in (k .0, k .1, rw (ne-eqb _ _ z));
       returned = λ words lent z.
           let d = done words _ lent z in
           (rw (d .1) (tapes .returned (slotsIn words) (words-fit words) .1), words-back words (d .0));
@@ -64,6 +79,4 @@ written =
           let s = tapes .spelled tape b a in
           let slots = contentsOf tape .slots in
           rw (slots-pack slots (s .0), slots-back slots (s .0), s .1);
-      joined = λ n first later lent room z y.
-          rw (done first _ lent z .1, done later _ room y .1, z, pieces .continued n (slotsIn first) (slotsIn later), map-append);
     }

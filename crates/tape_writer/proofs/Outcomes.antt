@@ -1,6 +1,6 @@
 -- The writer's calls by their outcome.
 use Prim.Native.Nat.{ℕ, _+_, _≤_, _<_}
-use mathlib.Core.Path.{_≡_, refl}
+use mathlib.Core.Path.{_≡_}
 use mathlib.Core.Bool.{true, false}
 use mathlib.Core.List.{List, _++_}
 use native.Mathlib.Omega.{arith}
@@ -8,7 +8,7 @@ use lib.ListN.{length, length-append}
 use lib.Seq.{sets}
 use borrow.Author.Tests.{lt-ltb, le-ltb}
 use Rattle.tape.specs.Writing.{runBytes, Piece, pieceOf, tapeAfter}
-use Rattle.tape_writer.specs.Writer.{slotsIn, allPack, Outcome, refusedOf, frontOf, writtenOf, Extending, extendedOf}
+use Rattle.tape_writer.specs.Writer.{slotsIn, allPack, refusedOf, frontOf, writtenOf, extendedOf}
 use Rattle.tape_encoder.proofs.Stores.{sets-append, sets-front}
 
 -- bytes that are put in front

@@ -12,11 +12,11 @@ use borrow.Author.Tests.{ltb-true, ltb-false}
 use Rattle.device.proofs.Tests.{by-test, both}
 use Rattle.command.specs.declared.Command.{Command}
 use Rattle.packing.specs.Packing.{commandIn, packsCommand}
-use Rattle.tape.specs.Writing.{runBytes, commandBytes, isNop, Piece, slotPiece, pieceOf}
+use Rattle.tape.specs.Writing.{runBytes, isNop, Piece, slotPiece, pieceOf}
 use Rattle.tape_writer.specs.declared.Measured.{Measured}
 use Rattle.tape_writer.specs.Writer.{slotsIn, allPack}
 use Rattle.tape_writer.specs.Passes.{measuredOf}
-use Rattle.tape_encoder.proofs.Slots.{joins, begins, ends, short-run, some-run, no-run, few-bytes}
+use Rattle.tape_encoder.proofs.Slots.{joins, begins, ends, short-run, no-run, few-bytes}
 use Rattle.tape_encoder.proofs.Stores.{sets-append}
 
 -- a slot adds six bytes at most to the records and the run that waits

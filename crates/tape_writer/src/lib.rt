@@ -28,7 +28,7 @@ pub struct Written {
     pub length: usize,
 }
 
-// Besides, how many NOPs at the end of the slots so far still wait for their record.
+// The same of a piece, and how many NOPs at its end still wait for their record.
 pub struct Extended {
     pub number: u8,
     pub length: usize,
@@ -71,9 +71,9 @@ fn measure(pending: u16, words: &[u64]) -> Measured
 }
 
 // The second pass over a row: its records, from the first place on.
-fn fill(pending: u16, words: &[u64], tape: &mut [u8]) -> usize
+fn fill(pending: u16, words: &[u64], tape: &mut [u8])
     requires { ⌜ (allPack (now words) ≡ true) × (length (pieceOf pending (slotsIn (now words)) .bytes) ≤ length (now tape)) ⌝ }
-    ensures { λ r. ⌜ (r ≡ length (pieceOf pending (slotsIn (now (words .entry))) .bytes)) × (now (tape .exit) ≡ sets (now (tape .entry)) 0 (pieceOf pending (slotsIn (now (words .entry))) .bytes)) ⌝ }
+    ensures { λ _. ⌜ now (tape .exit) ≡ sets (now (tape .entry)) 0 (pieceOf pending (slotsIn (now (words .entry))) .bytes) ⌝ }
 {
     let mut at = 0;
     let mut open = pending;
@@ -84,7 +84,6 @@ fn fill(pending: u16, words: &[u64], tape: &mut [u8]) -> usize
         open = pending_after(open, word);
         i += 1;
     }
-    at
 }
 
 // Goes on with a tape: writes the records of the slots of a row, after so many NOPs that wait: 0 at first, then what the call before answered.
@@ -127,8 +126,8 @@ pub fn finish(pending: u16, words: &[u64], tape: &mut [u8]) -> Written
                 length: 0,
             };
         }
-        let at = fill(pending, words, tape);
-        put_run(tape, at, found.pending);
+        fill(pending, words, tape);
+        put_run(tape, found.length, found.pending);
         return Written { number: 0, length };
     }
     Written {

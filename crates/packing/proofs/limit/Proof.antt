@@ -1,7 +1,6 @@
-use borrow.Author.Needs.{needs}
 use Rattle.packing.proofs.limit.Statement.{statement}
 use Rattle.packing.proofs.limit.Tie as tie
-use Rattle.packing.specs.Packing.{limitOf}
+use Rattle.packing.specs.Limits.{limitOf}
 use borrow.Author.Tests.{ne-eqb}
 
 returns : tie.Need-returns

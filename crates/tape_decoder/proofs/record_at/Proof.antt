@@ -18,7 +18,7 @@ run-at-requires : tie.Need-run-at-requires
 run-at-requires c κs = search needs
 
 returns : tie.Need-returns
-returns c = let s = c .before .before .before .before in simp (add-assoc, c .run-at .ensures, c .before .pair-at .ensures, run-here (s .pre) (s .args .run) (c .before .before .if1 .taken))
+returns c = let s = c .before .before .before .before in simp (add-assoc, c .run-at .ensures, c .before .pair-at .ensures, run-here (s .pre) (s .args .before) (c .before .before .if1 .taken))
 
 add-pair-at-2 : tie.Need-add-pair-at-2
 add-pair-at-2 c = search needs
@@ -35,7 +35,7 @@ sent-requires c κs = search needs
 
 returns-2 : tie.Need-returns-2
 unfolding bodyLength commandOf
-returns-2 c = let s = c .before .before .before .before .before in simp (add-assoc, c .sent .ensures, c .before .pair-at2 .ensures, command-here (s .pre) (s .args .run) 6 (omega arith), rest-at)
+returns-2 c = let s = c .before .before .before .before .before in simp (add-assoc, c .sent .ensures, c .before .pair-at2 .ensures, command-here (s .pre) (s .args .before) 6 (omega arith), rest-at)
 
 add-sent-2 : tie.Need-add-sent-2
 add-sent-2 c = search needs
@@ -45,7 +45,7 @@ sent-requires-2 c κs = search needs
 
 returns-3 : tie.Need-returns-3
 unfolding bodyLength commandOf
-returns-3 c = let s = c .before .before .before .before .before in simp (c .sent2 .ensures, command-here (s .pre) (s .args .run) 5 (omega arith))
+returns-3 c = let s = c .before .before .before .before .before in simp (c .sent2 .ensures, command-here (s .pre) (s .args .before) 5 (omega arith))
 
 add-sent-3 : tie.Need-add-sent-3
 add-sent-3 c = search needs
@@ -55,7 +55,7 @@ sent-requires-3 c κs = search needs
 
 returns-4 : tie.Need-returns-4
 unfolding bodyLength commandOf
-returns-4 c = let s = c .before .before .before .before .before .before in simp (c .sent3 .ensures, command-here (s .pre) (s .args .run) 4 (omega arith))
+returns-4 c = let s = c .before .before .before .before .before .before in simp (c .sent3 .ensures, command-here (s .pre) (s .args .before) 4 (omega arith))
 
 add-t18 : tie.Need-add-t18
 add-t18 c = search needs
@@ -71,7 +71,7 @@ sent-requires-4 c κs = search needs
 
 returns-5 : tie.Need-returns-5
 unfolding bodyLength commandOf
-returns-5 c = let s = c .before .before .before .before .before .before .before .before in simp (c .sent4 .ensures, command-here (s .pre) (s .args .run) 3 (omega arith), rest-at)
+returns-5 c = let s = c .before .before .before .before .before .before .before .before in simp (c .sent4 .ensures, command-here (s .pre) (s .args .before) 3 (omega arith), rest-at)
 
 add-pair-at-3 : tie.Need-add-pair-at-3
 add-pair-at-3 c = search needs
@@ -87,7 +87,7 @@ sent-requires-5 c κs = search needs
 
 returns-6 : tie.Need-returns-6
 unfolding bodyLength commandOf
-returns-6 c = let s = c .before .before .before .before .before .before .before .before .before .before in simp (add-assoc, c .sent5 .ensures, c .before .before .pair-at3 .ensures, command-here (s .pre) (s .args .run) 0 (omega arith), rest-at)
+returns-6 c = let s = c .before .before .before .before .before .before .before .before .before .before in simp (add-assoc, c .sent5 .ensures, c .before .before .pair-at3 .ensures, command-here (s .pre) (s .args .before) 0 (omega arith), rest-at)
 
 add-sent-6 : tie.Need-add-sent-6
 add-sent-6 c = search needs
@@ -97,7 +97,7 @@ sent-requires-6 c κs = search needs
 
 returns-7 : tie.Need-returns-7
 unfolding bodyLength commandOf
-returns-7 c = let s = c .before .before .before .before .before .before .before .before .before .before .before in simp (add-assoc, c .sent6 .ensures, c .before .before .before .pair-at3 .ensures, command-here (s .pre) (s .args .run) 1 (omega arith), rest-at)
+returns-7 c = let s = c .before .before .before .before .before .before .before .before .before .before .before in simp (add-assoc, c .sent6 .ensures, c .before .before .before .pair-at3 .ensures, command-here (s .pre) (s .args .before) 1 (omega arith), rest-at)
 
 add-pair-at-4 : tie.Need-add-pair-at-4
 add-pair-at-4 c = search needs
@@ -114,7 +114,7 @@ sent-requires-7 c κs = search needs
 
 returns-8 : tie.Need-returns-8
 unfolding bodyLength commandOf
-returns-8 c = let s = c .before .before .before .before .before .before .before .before .before .before .before .before in simp (add-assoc, c .sent7 .ensures, c .before .pair-at4 .ensures, c .before .before .before .before .pair-at3 .ensures, command-here (s .pre) (s .args .run) 2 (omega arith), rest-at)
+returns-8 c = let s = c .before .before .before .before .before .before .before .before .before .before .before .before in simp (add-assoc, c .sent7 .ensures, c .before .pair-at4 .ensures, c .before .before .before .before .pair-at3 .ensures, command-here (s .pre) (s .args .before) 2 (omega arith), rest-at)
 
 pub record-at-spec : {M : Type 1} → statement M
 record-at-spec =

@@ -2,7 +2,7 @@ use borrow.Author.Needs.{needs}
 use borrow.Author.Tests.{eq-eqb, le-ltb, lt-ltb, ne-eqb}
 use mathlib.Core.Logic.{⊎-elim}
 use Rattle.tape.specs.Reading.{wrongRun}
-use Rattle.tape_decoder.specs.Decoder.{runStep}
+use Rattle.tape_decoder.specs.Shapes.{runStep}
 use Rattle.tape_decoder.proofs.run_at.Statement.{statement}
 use Rattle.tape_decoder.proofs.run_at.Tie as tie
 

@@ -1,9 +1,7 @@
 use borrow.Author.Needs.{needs}
-use Prim.Native.Nat.{_≤_}
 use native.Mathlib.Omega.{arith}
-use lib.ListN.{length, length-append}
+use lib.ListN.{length-append}
 use Rattle.packing.specs.Packing.{commandIn}
-use Rattle.tape.specs.Writing.{runBytes}
 use Rattle.tape_encoder.proofs.Slots.{is-nop, no-nop, joins, begins, ends, some-run, few-bytes, short-run}
 use Rattle.tape_encoder.proofs.slot_length.Statement.{statement}
 use Rattle.tape_encoder.proofs.slot_length.Tie as tie

@@ -53,7 +53,7 @@ module _ {M : Type 1} (𝓤 : URA M) (H : Heap 𝓤) (A : Atoms 𝓤) (W : Given
   v = sliceVal (s .ptr) (length (s .now))
 
   abbrev made : Reader
-  made = record { tape = s; at = 0; run = 0 }
+  made = record { tape = s; at = 0; before = 0 }
 
   abbrev at : List Val × Unit {0}
   at = (v ∷ [], tt)

@@ -80,7 +80,7 @@ stayed = (stay-ref (0 ∷ []) tt behind, tt)
 abbrev vi : Found → Val
 vi r = EL.val I.the-type I′.the-laws (r .item)
 
-owed : (r : Found) (vs : List Val) → Is F.the-row r vs → Is I.the-row (r .item) (vi r ∷ []) × (Is usize (r .at) (vint w64 (r .at) ∷ []) × Is u16 (r .run) (vint w16 (r .run) ∷ []))
+owed : (r : Found) (vs : List Val) → Is F.the-row r vs → Is I.the-row (r .item) (vi r ∷ []) × (Is usize (r .at) (vint w64 (r .at) ∷ []) × Is u16 (r .before) (vint w16 (r .before) ∷ []))
 owed r vs is = let k = LL.owed F.the-type F′.the-laws r vs is in (k .0, (k .1 .0, k .1 .1 .0))
 
 -- the contract that the proof cites
@@ -96,7 +96,7 @@ module _ {M : Type 1} (𝓤 : URA M) (H : Heap 𝓤) (A : Atoms 𝓤) (W : Given
 
   -- the reader, moved by what is found
   abbrev h′ : Found → Reader
-  h′ r = record { tape = h .tape; at = r .at; run = r .run }
+  h′ r = record { tape = h .tape; at = r .at; before = r .before }
 
   abbrev D : Declared
   D = T.the-type (α κ′)
@@ -111,10 +111,10 @@ module _ {M : Type 1} (𝓤 : URA M) (H : Heap 𝓤) (A : Atoms 𝓤) (W : Given
   Post = walkOf 𝓤 H A next.ended stayed (next.clauses 𝓤 H A at-mem run) .post (((κ, (κ′, tt)), (q, (q′, tt)), bounds, x, at), tt)
 
   abbrev args : RefT (List ℕ) × (ℕ × (ℕ × Unit {0}))
-  args = (h .tape, (h .at, (h .run, tt)))
+  args = (h .tape, (h .at, (h .before, tt)))
 
   abbrev passed : Vals read.signature (κ′, tt)
-  passed = (sliceVal (h .tape .ptr) (length (h .tape .now)) ∷ [], (vint w64 (h .at) ∷ [], (vint w16 (h .run) ∷ [], tt)))
+  passed = (sliceVal (h .tape .ptr) (length (h .tape .now)) ∷ [], (vint w64 (h .at) ∷ [], (vint w16 (h .before) ∷ [], tt)))
 
   abbrev to : ReadAt 𝓤 H A at-mem run .Ghost
   to = (((κ′, tt), (q′, tt), tt, args, passed), tt)
@@ -136,7 +136,7 @@ module _ {M : Type 1} (𝓤 : URA M) (H : Heap 𝓤) (A : Atoms 𝓤) (W : Given
 
   -- of what the callee ensures, the clause alone
   abbrev Says : Found → Type 0
-  Says r = stepIn r ≡ stepOf (now (h .tape)) (h .at) (h .run)
+  Says r = stepIn r ≡ stepOf (now (h .tape)) (h .at) (h .before)
 
   said : (r : Found) → ent 𝓤 (ensured 𝓤 H A read.ended (read.clauses 𝓤 H A at-mem run) (κ′, tt) args tt r) (fact 𝓤 (Says r))
   said r = exE 𝓤 _ (λ ws. snd∗ 𝓤 (sem 𝓤 H A (lasts read.ended (κ′, tt) args ws)) (fact 𝓤 (Says r)))
@@ -146,8 +146,8 @@ module _ {M : Type 1} (𝓤 : URA M) (H : Heap 𝓤) (A : Atoms 𝓤) (W : Given
     again : ent 𝓤 (sem 𝓤 H A (Own h)) (sem 𝓤 H A (Own (h′ r)))
     again =
         qed W (‵ (Own h) ∷ []) ∵
-        owned ! usize (Is usize) (uint-makes 𝓤 H A W w64) (r .at) _ (owed r vs is .1 .0) $ move ! (1 ∷ 0 ∷ []) $ use2 W (‵ (Own (record { tape = h .tape; at = r .at; run = h .run }))) (own-put 𝓤 H A W D L 1 args (r .at) (T′.lowered h)) $
-        owned ! u16 (Is u16) (uint-makes 𝓤 H A W w16) (r .run) _ (owed r vs is .1 .1) $ move ! (1 ∷ 0 ∷ []) $ by ! (own-put 𝓤 H A W D L 2 (h .tape, (r .at, (h .run, tt))) (r .run) _)
+        owned ! usize (Is usize) (uint-makes 𝓤 H A W w64) (r .at) _ (owed r vs is .1 .0) $ move ! (1 ∷ 0 ∷ []) $ use2 W (‵ (Own (record { tape = h .tape; at = r .at; before = h .before }))) (own-put 𝓤 H A W D L 1 args (r .at) (T′.lowered h)) $
+        owned ! u16 (Is u16) (uint-makes 𝓤 H A W w16) (r .before) _ (owed r vs is .1 .1) $ move ! (1 ∷ 0 ∷ []) $ by ! (own-put 𝓤 H A W D L 2 (h .tape, (r .at, (h .before, tt))) (r .before) _)
 
     exits : Says r → ent 𝓤 (⋆ 𝓤 H A (‵ (fobs γ (B κ′ .coded .code (h′ r))) ∷ ‵ (fbor κ (Body (mem (B κ′)) b o γ)) ∷ ‵ (flft κ q) ∷ (‵ (flft κ′ q′) ⊛ ‵ ftrue) ∷ [])) (Post (vi r))
     exits e =

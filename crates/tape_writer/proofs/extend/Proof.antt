@@ -23,14 +23,14 @@ fill-requires c κs =
     (m .0, rw (m .1) at (c .before .if2 .left))
 
 same-length : tie.Need-same-length
-same-length c = simp (c .before .before .fill .ensures .1, length-sets)
+same-length c = simp (c .before .before .fill .ensures, length-sets)
 
 returns-2 : tie.Need-returns-2
 returns-2 c =
     let at-measure = c .before .before .before .before .before .before .before in
     let a = at-measure .before .before .before .args in
     let m = measured-all (at-measure .measure .result) (a .pending) (a .words .now) (at-measure .measure .ensures) (c .before .before .before .before .before .before .if1 .taken) in
-    rw (extended-0 (a .pending) (a .words .now) (a .tape .now) (m .0) (rw (m .1) at (c .before .before .before .before .if2 .left)), c .before .before .fill .ensures .1, m .1, m .2)
+    rw (extended-0 (a .pending) (a .words .now) (a .tape .now) (m .0) (rw (m .1) at (c .before .before .before .before .if2 .left)), c .before .before .fill .ensures, m .1, m .2)
 
 returns-3 : tie.Need-returns-3
 returns-3 c =

@@ -1,13 +1,12 @@
 -- The invariant: with the records that are left the tape is the one with all records, and these end at its length.
 use borrow.Author.Needs.{needs}
-use Prim.Native.Nat.{ℕ, _+_, _-_, _≤_, _<_}
-use mathlib.Core.Path.{_≡_, refl, sym, _∙_}
+use Prim.Native.Nat.{_+_, _-_, _≤_, _<_}
+use mathlib.Core.Path.{_≡_, refl, _∙_}
 use mathlib.Core.Bool.{true}
 use native.Mathlib.Omega.{arith}
 use native.Mathlib.Numerals.{add-one}
-use lib.ListN.{length, getD, drop, length-append, drop-of-length-le}
-use lib.Seq.{sets, length-sets}
-use Rattle.packing.specs.Packing.{commandIn}
+use lib.ListN.{length, drop, length-append, drop-of-length-le}
+use lib.Seq.{length-sets}
 use Rattle.tape.specs.Writing.{pieceOf}
 use Rattle.tape_writer.specs.Writer.{slotsIn, allPack}
 use Rattle.tape_writer.proofs.Passes.{stored, bytes-next, packs-next, stored-next}
@@ -78,7 +77,7 @@ returns c =
     let l = c .before .loop in
     let a = c .before .before .before .before .args in
     let over = drop-of-length-le (a .words .now) (c .loop-test .left) in
-    (omega (arith, rw over at (l .inv .4)), rw over at (l .inv .5))
+    rw over at (l .inv .5)
 
 pub fill-spec : {M : Type 1} → statement M
 fill-spec =

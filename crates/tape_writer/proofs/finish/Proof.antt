@@ -44,10 +44,10 @@ put-run-requires c κs =
     let a = at-measure .before .before .before .args in
     let m = measured-all (at-measure .measure .result) (a .pending) (a .words .now) (at-measure .measure .ensures) (c .before .before .before .before .before .before .before .before .if1 .taken) in
     let f = c .before .before .before .fill .ensures in
-    simp (f .1, length-sets) (omega (arith, f .0, m .1, c .before .before .before .before .before .before .before .run-length .ensures, c .before .before .before .before .before .if2 .left))
+    simp (f, length-sets) (omega (arith, m .1, c .before .before .before .before .before .before .before .run-length .ensures, c .before .before .before .before .before .if2 .left))
 
 same-length : tie.Need-same-length
-same-length c = simp (c .before .before .put-run .ensures .1, c .before .before .before .before .before .before .fill .ensures .1, length-sets)
+same-length c = simp (c .before .before .put-run .ensures .1, c .before .before .before .before .before .before .fill .ensures, length-sets)
 
 returns-2 : tie.Need-returns-2
 returns-2 c =
@@ -56,7 +56,7 @@ returns-2 c =
     let m = measured-all (at-measure .measure .result) (a .pending) (a .words .now) (at-measure .measure .ensures) (c .before .before .before .before .before .before .before .before .before .before .before .if1 .taken) in
     let f = c .before .before .before .before .before .before .fill .ensures in
     let r = c .before .before .before .before .before .before .before .before .before .before .run-length .ensures in
-    rw (written-0 (a .pending) (a .words .now) (a .tape .now) (m .0) (rw (r, m .1, m .2) at (c .before .before .before .before .before .before .before .before .if2 .left)), c .before .before .put-run .ensures .1, f .1, f .0, r, m .1, m .2)
+    rw (written-0 (a .pending) (a .words .now) (a .tape .now) (m .0) (rw (r, m .1, m .2) at (c .before .before .before .before .before .before .before .before .if2 .left)), c .before .before .put-run .ensures .1, f, r, m .1, m .2)
 
 returns-3 : tie.Need-returns-3
 returns-3 c =
