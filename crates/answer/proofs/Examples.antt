@@ -35,6 +35,8 @@ use Rattle.answer.specs.Output.{
   packedLine,
   unknownLine,
   cellLine,
+  recordLine,
+  runLine,
   answerLine,
 }
 
@@ -84,8 +86,23 @@ answers =
     ∷ said (Answer.Packed 0x1000007ff0203 0xa00000002) "slot 0 ? write 10\n"
     ∷ said (Answer.Packed 6 0xa00010002) "slot 0 REFR ?\n"
     ∷ said Answer.Unknown "?\n"
+    -- the records of a tape
+    ∷ said (Answer.Run 1 216) "1 NOP 216\n"
+    ∷ said (Answer.Record 217 Deac) "217 DEAC\n"
+    ∷ said (Answer.Record 218 Refr) "218 REFR\n"
+    ∷ said (Answer.Record 227 (Mrs 48)) "227 MRS 48\n"
+    ∷ said (Answer.Record 228 (Act (record { 0 = 0 }) (record { 0 = 0 }))) "228 ACT 0 0\n"
+    ∷ said (Answer.Record 229 (Wrt (record { 0 = 0 }) (record { 0 = 0 }) 7)) "229 WRT 0 0 7\n"
+    ∷ said (Answer.Record 230 (Fetch (record { 0 = 3 }) (record { 0 = 511 }))) "230 READ 3 511\n"
+    ∷ said (Answer.Record 231 (Pre (record { 0 = 2 }))) "231 PRE 2\n"
+    ∷ said (Answer.Ended 0) "end 0\n"
+    ∷ said (Answer.Refused 12 3) "refused 12 3\n"
+    ∷ said (Answer.Run 18446744073709551615 65535) "18446744073709551615 NOP 65535\n"
+    ∷ said (Answer.Record 18446744073709551615 (Wrt (record { 0 = 255 }) (record { 0 = 65535 }) 65535))
+    "18446744073709551615 WRT 255 65535 65535\n"
+    ∷ said (Answer.Refused 255 18446744073709551615) "refused 255 18446744073709551615\n"
     ∷ []
 
 written-lines : map (λ (w : Written). saidOf (answerLine (w .answer))) answers ≡ map (λ (w : Written). w .text) answers
-unfolding emptyOf byteOf spelledOf wordOf decimalOf andWord andNumber andOne andTwo commandOf reportOf begunOf numberLine pairLine slotLine unknownOf packedCommand packedReport packedLine unknownLine fieldsOf commandWord commandIn packsCommand reportWord reportIn packsReport cellLine answerLine
+unfolding emptyOf byteOf spelledOf wordOf decimalOf andWord andNumber andOne andTwo commandOf reportOf begunOf numberLine pairLine slotLine unknownOf packedCommand packedReport packedLine unknownLine fieldsOf commandWord commandIn packsCommand reportWord reportIn packsReport cellLine recordLine runLine answerLine
 written-lines = refl

@@ -1,4 +1,4 @@
--- The line that is written for an answer (REPLAY.md, "Output").
+-- The line that is written for an answer (REPLAY.md, "Output"), and for a record of a tape (TAPES.md, `show`).
 use Prim.Native.Nat.{ℕ}
 use mathlib.Core.Bool.{cond}
 use mathlib.Core.Option.{Option, none, some}
@@ -25,6 +25,10 @@ use Rattle.answer.specs.declared.Answer.the-variants.{
   Packed,
   Unknown,
   Wrong,
+  Record,
+  Run,
+  Ended,
+  Refused,
 }
 
 unfoldable pub andWord : Text → ℕ → Text
@@ -109,6 +113,15 @@ cellLine a =
     (a .cell .column .0))
     10
 
+-- a record of a tape: its slot, and COMMAND
+
+unfoldable pub recordLine : ℕ → Command → Text
+recordLine s c = byteOf (commandOf (decimalOf emptyOf s) c) 10
+
+-- a run's COMMAND is NOP with the run's count
+unfoldable pub runLine : ℕ → ℕ → Text
+runLine s n = byteOf (andOne (decimalOf emptyOf s) (letters "NOP") n) 10
+
 -- the line of an answer
 unfoldable pub answerLine : Answer → Text
 answerLine (Config n) = numberLine (letters "config") n
@@ -123,3 +136,7 @@ answerLine (Slots n k) = pairLine (letters "slots") n k
 answerLine (Packed c r) = packedLine c r
 answerLine Unknown = unknownLine
 answerLine (Wrong n) = numberLine (letters "error") n
+answerLine (Record s c) = recordLine s c
+answerLine (Run s n) = runLine s n
+answerLine (Ended n) = numberLine (letters "end") n
+answerLine (Refused n p) = pairLine (letters "refused") n p

@@ -1,4 +1,4 @@
-// Owns the lines that are written for a script's answers (REPLAY.md).
+// Owns the lines that are written for a script's answers (REPLAY.md) and for a tape's records (TAPES.md).
 use address::Bank;
 use command::Command;
 use plan::Report;
@@ -32,10 +32,12 @@ ghost use Rattle.answer.specs.Output.{
   packedLine,
   unknownLine,
   cellLine,
+  recordLine,
+  runLine,
   answerLine,
 };
 
-// The answer to one line of a script. A call's answer has a number of document 01's table first.
+// The answer to one line of a script, or what is said of one record of a tape. A call's answer has a number of document 01's table first.
 pub enum Answer {
     Config(u8),
     // And the request's number.
@@ -55,10 +57,22 @@ pub enum Answer {
     Unknown,
     // A line that is no call: its place in the script, counted from 1.
     Wrong(u64),
+    // A tape's command that is not NOP: its slot, counted from 1.
+    Record(u64, Command),
+    // A tape's run of so many NOPs: its first slot.
+    Run(u64, u16),
+    // A tape's end: how many slots it has.
+    Ended(u64),
+    // A tape's refused record: a number of document 02's table, and its first place, counted from 0.
+    Refused(u8, u64),
 }
 
 // The other words of a line, in the form that Text::word takes.
 const ERROR: u64 = 0x6572726f72;
+
+const END: u64 = 0x656e64;
+
+const REFUSED: u64 = 0x72656675736564;
 
 const NOP: u64 = 0x4e4f50;
 
@@ -213,6 +227,20 @@ fn cell_line(answer: ToCell) -> Text
     and_number(and_number(bank, cell.row.0 as u64), cell.column.0 as u64).byte(10)
 }
 
+// The line of a tape's command, with its slot.
+fn record_line(slot: u64, command: Command) -> Text
+    ensures { λ r. ⌜ r ≡ recordLine slot command ⌝ }
+{
+    and_command(Text::empty().decimal(slot), command).byte(10)
+}
+
+// The line of a tape's run.
+fn run_line(slot: u64, count: u16) -> Text
+    ensures { λ r. ⌜ r ≡ runLine slot count ⌝ }
+{
+    and_one(Text::empty().decimal(slot), NOP, count as u64).byte(10)
+}
+
 impl Answer {
     // The line that is written for it.
     pub fn line(self) -> Text
@@ -231,6 +259,10 @@ impl Answer {
             Answer::Packed(command, report) => packed_line(command, report),
             Answer::Unknown => unknown_line(),
             Answer::Wrong(line) => number_line(ERROR, line),
+            Answer::Record(slot, command) => record_line(slot, command),
+            Answer::Run(slot, count) => run_line(slot, count),
+            Answer::Ended(slots) => number_line(END, slots),
+            Answer::Refused(number, place) => pair_line(REFUSED, number, place),
         }
     }
 }

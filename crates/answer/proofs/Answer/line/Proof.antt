@@ -91,6 +91,30 @@ enum-known-self-11 c = search needs
 number-line-requires-3 : tie.Need-number-line-requires-3
 number-line-requires-3 c κs = search needs
 
+enum-known-self-12 : tie.Need-enum-known-self-12
+enum-known-self-12 c = search needs
+
+record-line-requires : tie.Need-record-line-requires
+record-line-requires c κs = search needs
+
+enum-known-self-13 : tie.Need-enum-known-self-13
+enum-known-self-13 c = search needs
+
+run-line-requires : tie.Need-run-line-requires
+run-line-requires c κs = search needs
+
+enum-known-self-14 : tie.Need-enum-known-self-14
+enum-known-self-14 c = search needs
+
+number-line-requires-4 : tie.Need-number-line-requires-4
+number-line-requires-4 c κs = search needs
+
+enum-known-self-15 : tie.Need-enum-known-self-15
+enum-known-self-15 c = search needs
+
+pair-line-requires-6 : tie.Need-pair-line-requires-6
+pair-line-requires-6 c κs = search needs
+
 returns : tie.Need-returns
 unfolding answerLine
 returns c = simp (c .before .before .self .given .1, ← c .number-line .ensures)
@@ -139,6 +163,22 @@ returns-12 : tie.Need-returns-12
 unfolding answerLine
 returns-12 c = simp (c .before .before .self11 .given .1, ← c .number-line3 .ensures)
 
+returns-13 : tie.Need-returns-13
+unfolding answerLine
+returns-13 c = simp (c .before .before .self12 .given .1, ← c .record-line .ensures)
+
+returns-14 : tie.Need-returns-14
+unfolding answerLine
+returns-14 c = simp (c .before .before .self13 .given .1, ← c .run-line .ensures)
+
+returns-15 : tie.Need-returns-15
+unfolding answerLine
+returns-15 c = simp (c .before .before .self14 .given .1, ← c .number-line4 .ensures)
+
+returns-16 : tie.Need-returns-16
+unfolding answerLine
+returns-16 c = simp (c .before .before .self15 .given .1, ← c .pair-line6 .ensures)
+
 pub line-spec : {M : Type 1} → statement M
 line-spec =
     tie.close
@@ -172,6 +212,14 @@ line-spec =
     unknown-line-requires
     enum-known-self-11
     number-line-requires-3
+    enum-known-self-12
+    record-line-requires
+    enum-known-self-13
+    run-line-requires
+    enum-known-self-14
+    number-line-requires-4
+    enum-known-self-15
+    pair-line-requires-6
     returns
     returns-2
     returns-3
@@ -183,4 +231,8 @@ line-spec =
     returns-9
     returns-10
     returns-11
-    returns-12)
+    returns-12
+    returns-13
+    returns-14
+    returns-15
+    returns-16)

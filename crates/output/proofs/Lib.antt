@@ -1,0 +1,2 @@
+-- The bytes that wait.
+pub mod Laws

@@ -1,0 +1,2 @@
+-- The bytes that a tape takes.
+pub mod Laws

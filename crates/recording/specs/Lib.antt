@@ -1,0 +1,2 @@
+-- A tape on its way to standard output.
+pub mod Recording

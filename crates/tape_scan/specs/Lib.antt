@@ -1,0 +1,2 @@
+-- What reading a whole tape gives.
+pub mod Scan
