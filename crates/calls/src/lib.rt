@@ -5,6 +5,19 @@ use output::Out;
 use output::say;
 use sequencer::Machine;
 use text::Text;
+ghost use Prim.Native.Nat.{_≤_};
+ghost use mathlib.Core.Path.{_≡_};
+ghost use lib.ListN.{length};
+ghost use Rattle.calls.specs.Played.{
+  playedOf,
+  configPlayed,
+  readPlayed,
+  writePlayed,
+  slotPlayed,
+  backlogPlayed,
+  cellPlayed,
+  addressPlayed,
+};
 
 // The machine after a call, and what is written for the call.
 pub struct Played {
@@ -12,28 +25,36 @@ pub struct Played {
     pub text: Text,
 }
 
-pub fn configure(cfg: u32, row: u32, refr: u32, tim: u32) -> Played {
+pub fn configure(cfg: u32, row: u32, refr: u32, tim: u32) -> Played
+    ensures { λ r. ⌜ r ≡ configPlayed cfg row refr tim ⌝ }
+{
     let answer = Machine::configure(cfg, row, refr, tim);
     let text = Answer::Config(answer.number).line();
     let machine = answer.machine;
     Played { machine, text }
 }
 
-pub fn read(before: Machine, address: u32) -> Played {
+pub fn read(before: Machine, address: u32) -> Played
+    ensures { λ r. ⌜ r ≡ readPlayed before address ⌝ }
+{
     let answer = before.read(address);
     let text = Answer::Read(answer.number, answer.request).line();
     let machine = answer.machine;
     Played { machine, text }
 }
 
-pub fn write(before: Machine, address: u32, halfword: u16) -> Played {
+pub fn write(before: Machine, address: u32, halfword: u16) -> Played
+    ensures { λ r. ⌜ r ≡ writePlayed before address halfword ⌝ }
+{
     let answer = before.write(address, halfword);
     let text = Answer::Write(answer.number, answer.request).line();
     let machine = answer.machine;
     Played { machine, text }
 }
 
-pub fn slot(before: Machine, bus: u16) -> Played {
+pub fn slot(before: Machine, bus: u16) -> Played
+    ensures { λ r. ⌜ r ≡ slotPlayed before bus ⌝ }
+{
     let answer = before.slot(bus);
     let command = answer.command;
     let report = answer.report;
@@ -42,35 +63,48 @@ pub fn slot(before: Machine, bus: u16) -> Played {
     Played { machine, text }
 }
 
-pub fn backlog(machine: Machine) -> Played {
+pub fn backlog(machine: Machine) -> Played
+    ensures { λ r. ⌜ r ≡ backlogPlayed machine ⌝ }
+{
     let answer = machine.backlog();
     let text = Answer::Backlog(answer.number, answer.backlog).line();
     Played { machine, text }
 }
 
-pub fn cell(machine: Machine, cfg: u32, row: u32, address: u32) -> Played {
+pub fn cell(machine: Machine, cfg: u32, row: u32, address: u32) -> Played
+    ensures { λ r. ⌜ r ≡ cellPlayed machine cfg row address ⌝ }
+{
     let text = Answer::Cell(standalone::to_cell(cfg, row, address)).line();
     Played { machine, text }
 }
 
-pub fn address_of(machine: Machine, cfg: u32, row: u32, cell: Cell) -> Played {
+pub fn address_of(machine: Machine, cfg: u32, row: u32, cell: Cell) -> Played
+    ensures { λ r. ⌜ r ≡ addressPlayed machine cfg row cell ⌝ }
+{
     let text = Answer::Address(standalone::to_address(cfg, row, cell)).line();
     Played { machine, text }
 }
 
-pub fn bus(machine: Machine, halfwords: usize) -> Played {
+pub fn bus(machine: Machine, halfwords: usize) -> Played
+    ensures { λ r. ⌜ r ≡ playedOf machine (Answer.Bus halfwords) ⌝ }
+{
     let text = Answer::Bus(halfwords).line();
     Played { machine, text }
 }
 
 // A line that is no call, by its number.
-pub fn wrong(machine: Machine, number: u64) -> Played {
+pub fn wrong(machine: Machine, number: u64) -> Played
+    ensures { λ r. ⌜ r ≡ playedOf machine (Answer.Wrong number) ⌝ }
+{
     let text = Answer::Wrong(number).line();
     Played { machine, text }
 }
 
 // The lines of the first `count` slots, unpacked from their words.
-fn unpacked(out: Out, commands: &[u64], reports: &[u64], count: usize, output: &mut [u8]) -> Out {
+fn unpacked(out: Out, commands: &[u64], reports: &[u64], count: usize, output: &mut [u8]) -> Out
+    requires { ⌜ out .waiting ≤ length (now output) ⌝ }
+    ensures { λ r. ⌜ r .waiting ≤ length (now (output .entry)) ⌝ }
+{
     let mut out = out;
     let mut i = 0;
     while i < count {
@@ -87,7 +121,10 @@ fn unpacked(out: Out, commands: &[u64], reports: &[u64], count: usize, output: &
 }
 
 // A line where a place is not 0 any more.
-fn changed(out: Out, word: u64, output: &mut [u8]) -> Out {
+fn changed(out: Out, word: u64, output: &mut [u8]) -> Out
+    requires { ⌜ out .waiting ≤ length (now output) ⌝ }
+    ensures { λ r. ⌜ r .waiting ≤ length (now (output .entry)) ⌝ }
+{
     if word == 0 {
         return out;
     }
@@ -95,7 +132,10 @@ fn changed(out: Out, word: u64, output: &mut [u8]) -> Out {
 }
 
 // Looks at the places beyond the first `count`. They are still 0: the contract of `slots` says so.
-fn beyond(out: Out, words: &[u64], count: usize, output: &mut [u8]) -> Out {
+fn beyond(out: Out, words: &[u64], count: usize, output: &mut [u8]) -> Out
+    requires { ⌜ out .waiting ≤ length (now output) ⌝ }
+    ensures { λ r. ⌜ r .waiting ≤ length (now (output .entry)) ⌝ }
+{
     let mut out = out;
     let mut i = count;
     while i < words.len() {
@@ -105,7 +145,7 @@ fn beyond(out: Out, words: &[u64], count: usize, output: &mut [u8]) -> Out {
     out
 }
 
-// The lines of a call for many slots.
+// The lines of a call for many slots. What waits afterwards stands within the buffer.
 pub fn tell(
     out: Out,
     number: u8,
@@ -113,7 +153,9 @@ pub fn tell(
     commands: &[u64],
     reports: &[u64],
     output: &mut [u8],
-) -> Out {
+) -> Out
+    ensures { λ r. ⌜ r .waiting ≤ length (now (output .entry)) ⌝ }
+{
     let first = say(out, Answer::Slots(number, count).line(), output);
     let all = unpacked(first, commands, reports, count, output);
     beyond(beyond(all, commands, count, output), reports, count, output)

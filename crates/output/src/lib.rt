@@ -2,6 +2,8 @@
 use libc::STDOUT_FILENO;
 use text::Text;
 ghost use Prim.Native.Nat.{_≤_};
+ghost use mathlib.Core.Path.{_≡_};
+ghost use mathlib.Core.Bool.{false};
 ghost use lib.ListN.{length};
 ghost use Rattle.output.specs.Waiting.{Limited, Emptied, Roomy};
 
@@ -12,7 +14,9 @@ pub struct Out {
     pub failed: bool,
 }
 
-pub fn nothing() -> Out {
+pub fn nothing() -> Out
+    ensures { λ r. ⌜ r ≡ record { waiting = 0; failed = false } ⌝ }
+{
     Out {
         waiting: 0,
         failed: false,
@@ -53,7 +57,7 @@ pub fn put(output: &mut [u8], waiting: usize, text: Text) -> usize
 }
 
 // Writes the bytes that wait, and answers whether that failed.
-pub fn flush(output: &[u8], waiting: usize) -> bool
+fn flush(output: &[u8], waiting: usize) -> bool
     requires { ⌜ waiting ≤ length (now output) ⌝ }
 {
     if io::write_all(STDOUT_FILENO, &output[..waiting]) {

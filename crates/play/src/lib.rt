@@ -1,6 +1,7 @@
 // Owns a run of a script: its machine and all that waits, and what each line does to it. Written are the lines that REPLAY.md fixes, or the tape of the
 // slots (TAPES.md).
 use calls::Played;
+use libc::STDERR_FILENO;
 use output::Out;
 use output::at_most;
 use output::say;
@@ -9,8 +10,12 @@ use script::Call;
 use script::Line;
 use script::NUMBERS;
 use sequencer::Machine;
+ghost use Prim.Native.Nat.{_+_, _%_};
 ghost use mathlib.Core.Path.{_≡_};
+ghost use mathlib.Core.Bool.{false};
 ghost use lib.ListN.{length};
+ghost use Rattle.script.specs.Line.{noLine};
+ghost use Rattle.play.specs.Run.{isTape, startOf, overOf};
 
 // What is written.
 pub enum Mode {
@@ -36,14 +41,18 @@ pub struct Run {
     pub pending: u16,
 }
 
-fn is_tape(mode: Mode) -> bool {
+fn is_tape(mode: Mode) -> bool
+    ensures { λ r. ⌜ r ≡ isTape mode ⌝ }
+{
     match mode {
         Mode::Lines => false,
         Mode::Tape => true,
     }
 }
 
-pub fn start(mode: Mode) -> Run {
+pub fn start(mode: Mode) -> Run
+    ensures { λ r. ⌜ r ≡ startOf mode ⌝ }
+{
     let machine = Machine::blank();
     let line = Line::empty();
     let out = output::nothing();
@@ -61,7 +70,9 @@ pub fn start(mode: Mode) -> Run {
 }
 
 // Nothing more is read.
-pub fn over(run: Run) -> Run {
+pub fn over(run: Run) -> Run
+    ensures { λ r. ⌜ r ≡ overOf run ⌝ }
+{
     let mut after = run;
     after.over = true;
     after
@@ -82,9 +93,40 @@ fn answered(run: Run, played: Played, output: &mut [u8]) -> Run {
     after
 }
 
+// What a recording has to say to a person, on standard error.
+fn tell(words: &[u8]) {
+    io::write_all(STDERR_FILENO, words);
+}
+
+fn tell_line(line: u64) {
+    tell(b"record: line ");
+    io::print_decimal(STDERR_FILENO, line);
+}
+
+fn tell_no_call(line: u64) {
+    tell_line(line);
+    tell(b" is no call and is passed over\n");
+}
+
+fn tell_refused(line: u64, number: u8) {
+    tell_line(line);
+    tell(b": the configuration is refused with number ");
+    io::print_decimal(STDERR_FILENO, number as u64);
+    tell(b"; slots are refused until another is accepted\n");
+}
+
+fn tell_second(line: u64) {
+    tell_line(line);
+    tell(b" configures the machine again: the tape ends before it\n");
+}
+
+fn tell_empty() {
+    tell(b"record: no configuration is accepted: the tape is empty\n");
+}
+
 fn wrong(run: Run, output: &mut [u8]) -> Run {
     if run.taped {
-        recording::tell_no_call(run.number);
+        tell_no_call(run.number);
         return run;
     }
     let machine = run.machine;
@@ -95,12 +137,12 @@ fn wrong(run: Run, output: &mut [u8]) -> Run {
 fn begin(run: Run, number: u8, machine: Machine) -> Run {
     let mut after = run;
     if number != 0 {
-        recording::tell_refused(run.number, number);
+        tell_refused(run.number, number);
         after.machine = machine;
         return after;
     }
     if run.begun {
-        recording::tell_second(run.number);
+        tell_second(run.number);
         return over(run);
     }
     after.machine = machine;
@@ -284,8 +326,10 @@ fn play_call(
     }
 }
 
-// The line under way has ended: plays it.
-pub fn ended(run: Run, given: &mut [u32; NUMBERS], bus: &mut [u16], output: &mut [u8]) -> Run {
+// The line under way has ended: plays it. The next one is empty, and has the next number.
+pub fn ended(run: Run, given: &mut [u32; NUMBERS], bus: &mut [u16], output: &mut [u8]) -> Run
+    ensures { λ r. ⌜ (r .line ≡ noLine) × (r .number ≡ (run .number + 1) % 18446744073709551616) ⌝ }
+{
     let line = run.line;
     line.end(given);
     let played = play_call(run, line.call(given), given, bus, output);
@@ -296,14 +340,16 @@ pub fn ended(run: Run, given: &mut [u32; NUMBERS], bus: &mut [u16], output: &mut
     after
 }
 
-// Nothing more is played: the tape gets its last record.
-pub fn finished(run: Run, output: &mut [u8]) -> Out {
+// Nothing more is played: the tape gets its last record. Lines need nothing more.
+pub fn finished(run: Run, output: &mut [u8]) -> Out
+    ensures { λ r. ⌜ (run .taped ≡ false → r ≡ run .out) ⌝ }
+{
     let out = run.out;
     if run.taped {
         if run.begun {
             return recording::end(out, run.pending, output);
         }
-        recording::tell_empty();
+        tell_empty();
     }
     out
 }

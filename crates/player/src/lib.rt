@@ -10,6 +10,7 @@ use script::Line;
 use script::NUMBERS;
 ghost use Prim.Native.Nat.{_≤_};
 ghost use mathlib.Core.Path.{_≡_};
+ghost use mathlib.Core.Bool.{false};
 ghost use lib.ListN.{length};
 
 // A line, as far as it has been read, and the place in the input where its line feed is, or the input's end.
@@ -121,16 +122,20 @@ fn no_halfwords() -> [u16; 4096]
     [0; 4096]
 }
 
-pub fn play_script(mode: Mode) {
+// Plays all of it. Unless reading or writing has failed, nothing waits to be written at the end.
+pub fn play_script(mode: Mode) -> Out
+    ensures { λ r. ⌜ (r .failed ≡ false → r .waiting ≡ 0) ⌝ }
+{
     let mut given = [0; NUMBERS];
     let mut bus = no_halfwords();
     let mut output = io::large_buffer();
     let run = turns(play::start(mode), &mut given, &mut bus, &mut output);
-    if run.out.failed {
-        return;
+    let said = run.out;
+    if said.failed {
+        return said;
     }
     // A last line without a line feed counts. After a tape's end none is under way.
     let last = ended(run, &mut given, &mut bus, &mut output);
     let out = play::finished(last, &mut output);
-    written(out, &output);
+    written(out, &output)
 }

@@ -1,5 +1,4 @@
-// Owns a tape on its way to standard output, and the sentences that a recording has for a person, on standard error.
-use libc::STDERR_FILENO;
+// Owns a tape on its way to standard output.
 use output::Out;
 use output::at_most;
 use output::with_room;
@@ -48,34 +47,4 @@ pub fn end(out: Out, pending: u16, output: &mut [u8]) -> Out
         waiting: waiting + last.length,
         failed: ready.failed,
     }
-}
-
-fn tell(words: &[u8]) {
-    io::write_all(STDERR_FILENO, words);
-}
-
-fn tell_line(line: u64) {
-    tell(b"record: line ");
-    io::print_decimal(STDERR_FILENO, line);
-}
-
-pub fn tell_no_call(line: u64) {
-    tell_line(line);
-    tell(b" is no call and is passed over\n");
-}
-
-pub fn tell_refused(line: u64, number: u8) {
-    tell_line(line);
-    tell(b": the configuration is refused with number ");
-    io::print_decimal(STDERR_FILENO, number as u64);
-    tell(b"; slots are refused until another is accepted\n");
-}
-
-pub fn tell_second(line: u64) {
-    tell_line(line);
-    tell(b" configures the machine again: the tape ends before it\n");
-}
-
-pub fn tell_empty() {
-    tell(b"record: no configuration is accepted: the tape is empty\n");
 }

@@ -1,0 +1,2 @@
+-- What playing a call gives.
+pub mod Played
