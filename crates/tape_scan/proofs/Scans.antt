@@ -2,9 +2,9 @@
 use Prim.Native.Nat.{ℕ, _+_, _-_, _%_, _^_, _≤_, _<_}
 use native.Mathlib.Omega.{arith}
 use native.Mathlib.Nat.{add-zero, mod-add-mod, mod-eq-of-lt}
-use mathlib.Core.Path.{_≡_, refl, ap, _∙_}
+use mathlib.Core.Path.{_≡_, ap, _∙_}
 use mathlib.Core.Bool.{true, false}
-use mathlib.Core.List.{List, [], _∷_, _++_}
+use mathlib.Core.List.{List, [], _++_}
 use lib.ListN.{length, length-append}
 use Rattle.tape.specs.Reading.{end, Step, stepOf, slotsOf, goesOn, Contents, contentsFrom}
 use Rattle.tape.proofs.Steps.{steps}
@@ -20,16 +20,10 @@ goes : (tape : List ℕ) (at before : ℕ) → goesOn (stepOf tape at before .an
       slots = slotsOf (stepOf tape at before .answer) ++ rest tape (stepOf tape at before .at) (stepOf tape at before .before) .slots;
       last = rest tape (stepOf tape at before .at) (stepOf tape at before .before) .last;
     }
-unfolding contentsFrom
-goes [] at before g = let p = steps .progress [] at before g in absurd (omega arith)
-goes (x ∷ t) at before g =
-    let p = steps .progress (x ∷ t) at before g .0 in
-    rw (g, steps .enough (length t) (x ∷ t) (stepOf (x ∷ t) at before .at) (stepOf (x ∷ t) at before .before) (omega arith))
+goes tape at before g = steps .unfolds tape at before ∙ rw g
 
 stops : (tape : List ℕ) (at before : ℕ) → goesOn (stepOf tape at before .answer) ≡ false → rest tape at before ≡ record { slots = []; last = stepOf tape at before .answer }
-unfolding contentsFrom
-stops [] at before g = refl
-stops (x ∷ t) at before g = rw g
+stops tape at before g = steps .unfolds tape at before ∙ rw g
 
 -- a record that is read takes the reader on
 pub onward : (tape : List ℕ) (at before : ℕ) (s : Step) → s ≡ stepOf tape at before → goesOn (s .answer) ≡ true → length tape - s .at < length tape - at
