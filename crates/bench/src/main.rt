@@ -3,6 +3,7 @@
 use command::Command;
 use libc::STDOUT_FILENO;
 use plan::Report;
+use queue::Kind;
 use sequencer::Machine;
 use sequencer::Requested;
 
@@ -67,13 +68,17 @@ fn mix_report(digest: u32, report: Report) -> u32 {
     }
 }
 
+fn kind_of(x: u32) -> Kind {
+    if x / LOAD % 2 == 1 {
+        return Kind::Write;
+    }
+    Kind::Read
+}
+
 // A request of the stream's word x.
 fn asked(machine: Machine, x: u32) -> Requested {
     let address = x / 256 % 64 * 2048 + x / 16384 % 1024 * 2;
-    if x / LOAD % 2 == 1 {
-        return machine.write(address, (x / 65536) as u16);
-    }
-    machine.read(address)
+    machine.request(kind_of(x), address, (x / 65536) as u16)
 }
 
 // The reading call, where it is measured.

@@ -1,6 +1,7 @@
 // Runs slots, 64 in each call, with a fixed pseudo-random stream of requests between the calls, and prints a digest of all answers and words: the work of
 // bench/best.c with -DMANY, on the proved machine (see bench/run).
 use libc::STDOUT_FILENO;
+use queue::Kind;
 use sequencer::Machine;
 use sequencer::Requested;
 
@@ -56,13 +57,17 @@ fn mix_reading(digest: u32, machine: Machine) -> u32 {
     digest
 }
 
+fn kind_of(x: u32) -> Kind {
+    if x / LOAD % 2 == 1 {
+        return Kind::Write;
+    }
+    Kind::Read
+}
+
 // A request of the stream's word x.
 fn request(machine: Machine, x: u32) -> Requested {
     let address = x / 256 % 64 * 2048 + x / 16384 % 1024 * 2;
-    if x / LOAD % 2 == 1 {
-        return machine.write(address, (x / 65536) as u16);
-    }
-    machine.read(address)
+    machine.request(kind_of(x), address, (x / 65536) as u16)
 }
 
 // A request for each LOAD slots of a call.

@@ -3,6 +3,7 @@ use address::Cell;
 use answer::Answer;
 use output::Out;
 use output::say;
+use queue::Kind;
 use sequencer::Machine;
 use text::Text;
 ghost use Prim.Native.Nat.{_≤_};
@@ -11,8 +12,8 @@ ghost use lib.ListN.{length};
 ghost use Rattle.calls.specs.Played.{
   playedOf,
   configPlayed,
-  readPlayed,
-  writePlayed,
+  requestLine,
+  requestPlayed,
   slotPlayed,
   backlogPlayed,
   cellPlayed,
@@ -34,20 +35,21 @@ pub fn configure(cfg: u32, row: u32, refr: u32, tim: u32) -> Played
     Played { machine, text }
 }
 
-pub fn read(before: Machine, address: u32) -> Played
-    ensures { λ r. ⌜ r ≡ readPlayed before address ⌝ }
+// A request's line names its kind.
+fn request_line(kind: Kind, number: u8, request: u32) -> Answer
+    ensures { λ r. ⌜ r ≡ requestLine kind number request ⌝ }
 {
-    let answer = before.read(address);
-    let text = Answer::Read(answer.number, answer.request).line();
-    let machine = answer.machine;
-    Played { machine, text }
+    match kind {
+        Kind::Read => Answer::Read(number, request),
+        Kind::Write => Answer::Write(number, request),
+    }
 }
 
-pub fn write(before: Machine, address: u32, halfword: u16) -> Played
-    ensures { λ r. ⌜ r ≡ writePlayed before address halfword ⌝ }
+pub fn request(before: Machine, kind: Kind, address: u32, halfword: u16) -> Played
+    ensures { λ r. ⌜ r ≡ requestPlayed before kind address halfword ⌝ }
 {
-    let answer = before.write(address, halfword);
-    let text = Answer::Write(answer.number, answer.request).line();
+    let answer = before.request(kind, address, halfword);
+    let text = request_line(kind, answer.number, answer.request).line();
     let machine = answer.machine;
     Played { machine, text }
 }

@@ -15,8 +15,8 @@ use Rattle.plan.specs.Choice.{currentOf}
 use Rattle.plan.specs.Slot.{tickedOf}
 use Rattle.sequencer.specs.declared.Machine.{Machine}
 use Rattle.sequencer.specs.declared.Slot.{Slot}
-use Rattle.sequencer.specs.Calls.{readRequestOf, writeRequestOf, slotOf}
-use Rattle.model.specs.World.{Call, read, write, slot, slots, backlog}
+use Rattle.sequencer.specs.Calls.{requestOf, slotOf}
+use Rattle.model.specs.World.{Call, request, slot, slots, backlog}
 
 pub data Event : Type 0 where
   -- a slot carries this command
@@ -61,8 +61,7 @@ watched (suc n) s from was bus m =
 -- the machine after the requests of a list; its other calls do not count here
 unfoldable pub requested : Machine → List Call → Machine
 requested m [] = m
-requested m (read a ∷ ks) = requested (readRequestOf m a .machine) ks
-requested m (write a h ∷ ks) = requested (writeRequestOf m a h .machine) ks
+requested m (request kind a h ∷ ks) = requested (requestOf m kind a h .machine) ks
 requested m (slot b ∷ ks) = requested m ks
 requested m (slots b k r ∷ ks) = requested m ks
 requested m (backlog ∷ ks) = requested m ks

@@ -11,12 +11,13 @@ use Rattle.standalone.specs.declared.ToCell.{ToCell}
 use Rattle.standalone.specs.Standalone.{toCellOf}
 use Rattle.command.specs.declared.Command.{Command}
 use Rattle.command.specs.declared.Command.the-variants.{Act, Read, Wrt, Pre, Deac, Refr, Mrs}
+use Rattle.queue.specs.declared.Kind.{Kind}
 use Rattle.plan.specs.Completion.{readDone, writeDone}
 use Rattle.packing.specs.Packing.{commandIn}
 use Rattle.tape.specs.Writing.{tapeOf}
 use Rattle.sequencer.specs.Calls.{configureOf}
 use Rattle.sequencer.specs.Batch.{seriesOf}
-use Rattle.model.specs.World.{Call, read, write}
+use Rattle.model.specs.World.{Call, request}
 use Rattle.examples.specs.Run.{Event, sent, told, free, watched, requested, numbersOf}
 
 pub data Question : Type 0 where
@@ -97,34 +98,35 @@ table =
     ∷ row (words 0x4612 4 184 0x63175a40) (spans 3 0 0)
     ∷ row (distances 0x4612 4 185 0x63175a40) (numbers (13 ∷ 4 ∷ 2 ∷ 8 ∷ 6 ∷ 11 ∷ 5 ∷ []))
     -- E5
-    ∷ row (bus 0x4400 0 27 0 (write 0 9 ∷ read 0 ∷ []) 234 1)
+    ∷ row (bus 0x4400 0 27 0 (request Kind.Write 0 9 ∷ request Kind.Read 0 0 ∷ []) 234 1)
     (events
     (sent 217 Deac ∷ sent 218 Refr ∷ sent 219 Refr ∷ sent 220 Refr ∷ sent 221 Refr ∷ sent 222 Refr ∷ sent 223 Refr ∷ sent 224 Refr ∷ sent 225 Refr ∷ sent 226 (Mrs 32)
     ∷ sent 228 (ACT 0 0) ∷ sent 229 (WRT 0 0 9) ∷ told 229 (writeDone 1) ∷ free 230 ∷ sent 230 (READ 0 0) ∷ told 232 (readDone 2 7) ∷ free 234 ∷ []))
     -- E5's slots 217 to 229 on a tape, with halfword 7 written (document 02, (ii)); not the paper's: the run before them, in the tape from slot 1 on
-    ∷ row (tape 0x4400 0 27 0 (write 0 7 ∷ read 0 ∷ []) 229 216)
+    ∷ row (tape 0x4400 0 27 0 (request Kind.Write 0 7 ∷ request Kind.Read 0 0 ∷ []) 229 216)
     (numbers
     (0x05 ∷ 0x06 ∷ 0x06 ∷ 0x06 ∷ 0x06 ∷ 0x06 ∷ 0x06 ∷ 0x06 ∷ 0x06 ∷ 0x07 ∷ 0x20 ∷ 0x00 ∷ 0x00 ∷ 0x01 ∷ 0x00
     ∷ 0x01 ∷ 0x00 ∷ 0x00 ∷ 0x00 ∷ 0x03 ∷ 0x00 ∷ 0x00 ∷ 0x00 ∷ 0x07 ∷ 0x00 ∷ []))
     ∷ row (tape 0x4400 0 27 0 [] 217 0) (numbers (0x00 ∷ 0xd8 ∷ 0x00 ∷ 0x05 ∷ []))
     -- E6
-    ∷ row (bus 0x4400 0 27 0 (write 0 9 ∷ read 0 ∷ []) 362 235)
+    ∷ row (bus 0x4400 0 27 0 (request Kind.Write 0 9 ∷ request Kind.Read 0 0 ∷ []) 362 235)
     (events (sent 335 Deac ∷ sent 336 Refr ∷ free 337 ∷ sent 337 Deac ∷ sent 338 Refr ∷ free 339 ∷ sent 339 Deac ∷ sent 340 Refr ∷ free 341 ∷ sent 341 Deac ∷ sent 342 Refr ∷ free 343 ∷ sent 362 Deac ∷ []))
     -- E7, with s = 1166, the first service slot of E4's machine
-    ∷ row (bus 0x4620 4 136 0x42215810 (write 0 1 ∷ write 0x800 2 ∷ []) 1178 1166)
+    ∷ row (bus 0x4620 4 136 0x42215810 (request Kind.Write 0 1 ∷ request Kind.Write 0x800 2 ∷ []) 1178 1166)
     (events
     (sent 1166 (ACT 0 0) ∷ sent 1169 (WRT 0 0 1) ∷ told 1169 (writeDone 1) ∷ free 1170
     ∷ sent 1172 (PRE 0) ∷ sent 1175 (ACT 0 1) ∷ sent 1178 (WRT 0 0 2) ∷ told 1178 (writeDone 2) ∷ []))
     -- E8
-    ∷ row (bus 0x4620 4 136 0x42215810 (write 0 1 ∷ write 0x200 2 ∷ []) 1173 1166)
+    ∷ row (bus 0x4620 4 136 0x42215810 (request Kind.Write 0 1 ∷ request Kind.Write 0x200 2 ∷ []) 1173 1166)
     (events
     (sent 1166 (ACT 0 0) ∷ sent 1169 (WRT 0 0 1) ∷ told 1169 (writeDone 1) ∷ free 1170
     ∷ sent 1170 (ACT 1 0) ∷ sent 1173 (WRT 1 0 2) ∷ told 1173 (writeDone 2) ∷ []))
     -- E9
-    ∷ row (bus 0x4620 4 136 0x42215810 (read 0 ∷ []) 1174 1166)
+    ∷ row (bus 0x4620 4 136 0x42215810 (request Kind.Read 0 0 ∷ []) 1174 1166)
     (events (sent 1166 (ACT 0 0) ∷ sent 1169 (READ 0 0) ∷ told 1172 (readDone 1 7) ∷ free 1174 ∷ []))
-    -- not the paper's: E7, E8 and E9 in one, on the machine whose distances differ; its first service slot is 1591
-    ∷ row (bus 0x4612 4 185 0x63175a40 (write 0 1 ∷ write 0x1000 2 ∷ write 0x800 3 ∷ read 0x2000 ∷ []) 1624 1)
+    -- not the paper's: E7, E8 and E9 in one, on the machine whose distances differ; its first service slot is 1591.
+    -- The halfword given with the read means nothing
+    ∷ row (bus 0x4612 4 185 0x63175a40 (request Kind.Write 0 1 ∷ request Kind.Write 0x1000 2 ∷ request Kind.Write 0x800 3 ∷ request Kind.Read 0x2000 9 ∷ []) 1624 1)
     (events
     (sent 1481 Deac ∷ sent 1485 Refr ∷ sent 1498 Refr ∷ sent 1511 Refr ∷ sent 1524 Refr ∷ sent 1537 Refr ∷ sent 1550 Refr ∷ sent 1563 Refr ∷ sent 1576 Refr ∷ sent 1589 (Mrs 48)
     ∷ sent 1591 (ACT 0 2) ∷ sent 1593 (READ 0 0) ∷ told 1596 (readDone 4 7) ∷ free 1598
@@ -132,9 +134,9 @@ table =
     ∷ sent 1612 (PRE 0) ∷ sent 1616 (ACT 0 1) ∷ sent 1618 (WRT 0 0 2) ∷ told 1618 (writeDone 2) ∷ free 1619
     ∷ sent 1621 (ACT 1 0) ∷ sent 1623 (WRT 1 0 3) ∷ told 1623 (writeDone 3) ∷ free 1624 ∷ []))
     -- E10, on E4's machine (document 01 names none): read 0x800, write 0, read 0
-    ∷ row (order 0x4620 4 136 0x42215810 (write 0 1 ∷ read 0 ∷ read 0x800 ∷ []) 1226) (numbers (3 ∷ 1 ∷ 2 ∷ []))
+    ∷ row (order 0x4620 4 136 0x42215810 (request Kind.Write 0 1 ∷ request Kind.Read 0 0 ∷ request Kind.Read 0x800 0 ∷ []) 1226) (numbers (3 ∷ 1 ∷ 2 ∷ []))
     -- E11, on E4's machine too: the read waits
-    ∷ row (order 0x4620 4 136 0x42215810 (write 0 1 ∷ read 0x7fe ∷ []) 1226) (numbers (1 ∷ 2 ∷ []))
+    ∷ row (order 0x4620 4 136 0x42215810 (request Kind.Write 0 1 ∷ request Kind.Read 0x7fe 0 ∷ []) 1226) (numbers (1 ∷ 2 ∷ []))
     -- E12: 8 column, 2 bank, 13 row bits
     ∷ row (cell 0x4420 4 0x200) (place 0 1 0 0)
     ∷ row (cell 0x4420 4 0x7fe) (place 0 3 0 255)

@@ -18,6 +18,7 @@ use Rattle.device.proofs.Tests.{both}
 use Rattle.device.specs.Rules.{R7, R12-open, R13-open, R14, requirements, legalOf, carriedOf}
 use Rattle.device.specs.History.{last, openRow, startLog, fed}
 use Rattle.ages.specs.Ages.{freshOf, openIn, rowIn, openRows, agedOf, agesAfter, sentOf}
+use Rattle.queue.specs.declared.Kind.{Kind}
 use Rattle.queue.specs.Places.{kindIn, requestIn, requestAt, getOf, emptyOf, storedOf, acceptOf, shiftedOf, removeOf}
 use Rattle.queue.specs.Oldest.{blockedOf, readyOf, oldestOf}
 use Rattle.refresh.specs.Counting.{startOf, tickOf, refreshedOf, expiriesOf, soundCounters}
@@ -41,7 +42,6 @@ use Rattle.sequencer.specs.Calls.{
   queuedRequest,
   enqueuedOf,
   requestOf,
-  readRequestOf,
   slotOf,
 }
 use Rattle.model.specs.Sdram.{stored, startSdram, cellsAfter, drivenAfter, takes, sdramAfter}
@@ -50,8 +50,7 @@ use Rattle.model.specs.Condition.{firstService, expiries, refreshes, InB
 use Rattle.model.specs.World.{
   World,
   Call,
-  read,
-  write,
+  request,
   slot,
   slots,
   startWorld,
@@ -82,11 +81,12 @@ world calls = played (machine .config) (startWorld (machine .config) machine (λ
 
 -- a write and a read of address 0, two refused reads, a read of another block; then the initialisation
 pub opening : List Call
-opening = write 0 9 ∷ read 0 ∷ read 1 ∷ read 0x40000 ∷ read 0x800 ∷ times 227 (slot 0 ∷ [])
+opening =
+    request Kind.Write 0 9 ∷ request Kind.Read 0 0 ∷ request Kind.Read 1 0 ∷ request Kind.Read 0x40000 0 ∷ request Kind.Read 0x800 0 ∷ times 227 (slot 0 ∷ [])
 
 -- reads without end: refreshes are put off, and the write waits
 pub busy : List Call
-busy = times 82 (read 0x800 ∷ times 4 (slot 0 ∷ []))
+busy = times 82 (request Kind.Read 0x800 0 ∷ times 4 (slot 0 ∷ []))
 
 -- and no more requests
 pub rest : List Call
@@ -94,11 +94,11 @@ rest = times 90 (slot 0 ∷ [])
 
 -- the same reads up to slot 550: in slot 551 the twelfth interval expires
 pub brim : World
-brim = world (opening ++ (times 80 (read 0x800 ∷ times 4 (slot 0 ∷ [])) ++ read 0x800 ∷ times 3 (slot 0 ∷ [])))
+brim = world (opening ++ (times 80 (request Kind.Read 0x800 0 ∷ times 4 (slot 0 ∷ [])) ++ request Kind.Read 0x800 0 ∷ times 3 (slot 0 ∷ [])))
 
--- a read of address 2, a write of it and a read of it, all accepted before slot 1, after so many slots
+-- a read of address 2, a write of it and a read of it, all accepted before slot 1, after so many slots; the halfwords given with the reads mean nothing
 pub chain : ℕ → World
-chain n = world (read 2 ∷ write 2 65535 ∷ read 2 ∷ times n (slot 0 ∷ []))
+chain n = world (request Kind.Read 2 3 ∷ request Kind.Write 2 65535 ∷ request Kind.Read 2 4 ∷ times n (slot 0 ∷ []))
 
 -- its last eight slots in one call: the array for commands is the shortest
 pub at-once : World
@@ -119,9 +119,9 @@ absent-not n (x ∷ l) e m =
     ⊎-elim (eqb-false n x (not-true (eqb n x) (h .0))) (absent-not n l (h .1)) (List·Memᴰ·cases-cons m)
 
 pub record ClosedRun : Type 0 where
-  pub odd : readRequestOf machine 1 .number ≡ 4
-  pub beyond : readRequestOf machine 0x40000 .number ≡ 5
-  pub full : readRequestOf (world (times 8 (read 0 ∷ [])) .machine) 0 .number ≡ 6
+  pub odd : requestOf machine Kind.Read 1 0 .number ≡ 4
+  pub beyond : requestOf machine Kind.Read 0x40000 0 .number ≡ 5
+  pub full : requestOf (world (times 8 (request Kind.Read 0 0 ∷ [])) .machine) Kind.Read 0 0 .number ≡ 6
   -- a Must run is on
   pub must : world (opening ++ busy) .machine .control .must ≡ true
   -- all 85 requests are reported: the read of another block first, the write and the read behind it last

@@ -25,7 +25,7 @@ use Rattle.sequencer.specs.declared.Reading.{Reading}
 use Rattle.sequencer.specs.declared.Requested.{Requested}
 use Rattle.sequencer.specs.declared.Slot.{Slot}
 use Rattle.numbers.specs.Numbers.{lastNumber}
-use Rattle.sequencer.specs.Calls.{configureOf, recordNumberOf, readRequestOf, writeRequestOf, backlogOf}
+use Rattle.sequencer.specs.Calls.{configureOf, recordNumberOf, requestOf, backlogOf}
 use Rattle.packing.specs.Packing.{commandWord, commandIn, reportWord, reportIn}
 use Rattle.packing.specs.Laws.{FitsCommand, FitsReport}
 use Rattle.sequencer.specs.Batch.{Batch, countOf}
@@ -34,8 +34,7 @@ use Rattle.model.specs.World.{
   World,
   halfwordOf,
   Call,
-  read,
-  write,
+  request,
   slot,
   slots,
   backlog,
@@ -181,8 +180,7 @@ pub record Exact (c : Config) (w : World) (r : Reading) : Type 0 where
   pub exact : r .backlog ≡ backlogIn c w
 
 abbrev pub Right : Config → World → Call → Type 0
-Right c w (read a) = Answered c w a (readRequestOf (w .machine) a)
-Right c w (write a h) = Answered c w a (writeRequestOf (w .machine) a (halfwordOf h))
+Right c w (request kind a h) = Answered c w a (requestOf (w .machine) kind a (halfwordOf h))
 Right c w (slot any) = Carried c w (slotIn w any)
 Right c w (slots bus commands reports) =
     CarriedAll c w (countOf bus commands reports) (usedOf bus commands reports) commands reports (batchIn c w bus commands reports)

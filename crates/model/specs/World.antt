@@ -10,7 +10,7 @@ use Rattle.plan.specs.Completion.{Completion, completionOf}
 use Rattle.sequencer.specs.declared.Machine.{Machine}
 use Rattle.sequencer.specs.declared.Requested.{Requested}
 use Rattle.sequencer.specs.declared.Slot.{Slot}
-use Rattle.sequencer.specs.Calls.{readRequestOf, writeRequestOf, slotOf}
+use Rattle.sequencer.specs.Calls.{requestOf, slotOf}
 use Rattle.sequencer.specs.Batch.{Batch, countOf, manySlotsOf}
 use Rattle.model.specs.Sdram.{Cells, Sdram, startSdram, drivenIn, sdramAfter}
 use Rattle.model.specs.Flat.{Flat, startFlat, flatAfter}
@@ -19,11 +19,10 @@ use Rattle.model.specs.Flat.{Flat, startFlat, flatAfter}
 abbrev pub halfwordOf : ℕ → ℕ
 halfwordOf n = n % 65536
 
--- a call with its arguments. A slot has the halfword that the bus carries if the SDRAM has none on it. Many slots have an array of such halfwords, and what the
--- other two arrays hold before the call; each is of any length
+-- a call with its arguments. A request has a halfword, which means nothing with a read. A slot has the halfword that the bus carries if the SDRAM has none on
+-- it. Many slots have an array of such halfwords, and what the other two arrays hold before the call; each is of any length
 pub data Call : Type 0 where
-  read : (address : ℕ) → Call
-  write : (address halfword : ℕ) → Call
+  request : (kind : Kind) (address halfword : ℕ) → Call
   slot : (bus : ℕ) → Call
   slots : (bus commands reports : List ℕ) → Call
   backlog : Call
@@ -116,10 +115,9 @@ afterRequest w kind address halfword r =
       reported = w .reported;
     }
 
--- one call, handed the record that the one before gave; a write has the halfword `halfwordOf` its number; a reading call leaves everything as it was
+-- one call, handed the record that the one before gave; a number given as a halfword counts as `halfwordOf` it; a reading call leaves everything as it was
 unfoldable pub after : Config → World → Call → World
-after c w (read a) = afterRequest w Kind.Read a 0 (readRequestOf (w .machine) a)
-after c w (write a h) = afterRequest w Kind.Write a (halfwordOf h) (writeRequestOf (w .machine) a (halfwordOf h))
+after c w (request kind a h) = afterRequest w kind a (halfwordOf h) (requestOf (w .machine) kind a (halfwordOf h))
 after c w (slot any) = afterSlot c w (slotIn w any)
 after c w (slots bus commands reports) = afterBatch (afterSlots c w (usedOf bus commands reports)) (batchIn c w bus commands reports)
 after c w backlog = w

@@ -6,6 +6,7 @@ use output::Out;
 use output::at_most;
 use output::say;
 use packing::pack_command;
+use queue::Kind;
 use script::Call;
 use script::Line;
 use script::NUMBERS;
@@ -303,10 +304,14 @@ fn play_call(
         Call::Nothing => run,
         Call::Wrong => wrong(run, output),
         Call::Config(cfg, row, refr, tim) => configure(run, cfg, row, refr, tim, output),
-        Call::Read(address) => answered(run, calls::read(machine, address), output),
+        Call::Read(address) => answered(
+            run,
+            calls::request(machine, Kind::Read, address, 0),
+            output,
+        ),
         Call::Write(address, halfword) => answered(
             run,
-            calls::write(machine, address, halfword),
+            calls::request(machine, Kind::Write, address, halfword),
             output,
         ),
         Call::Slot(carried) => slot(run, carried, output),

@@ -32,7 +32,7 @@ use Rattle.sequencer.specs.Machine.{stepOf}
 use Rattle.sequencer.specs.Calls.{requestOf, slotOf}
 use Rattle.sequencer.proofs.Sound.{step-serves}
 use Rattle.sequencer.specs.Batch.{seriesOf, countOf, batchOf, manySlotsOf}
-use Rattle.model.specs.World.{Call, read, write, slot, slots, backlog, usedOf}
+use Rattle.model.specs.World.{Call, request, slot, slots, backlog, usedOf}
 use Rattle.theorem.proofs.Plans.{actedOf, afterOf, step-is}
 use Rattle.progress.specs.Calls.{afterCalls, slotsIn, choosesIn, chooses}
 use Rattle.progress.proofs.Start.{startLeft, left-none, none-left, sooner}
@@ -81,8 +81,7 @@ choosing-slots (bus ∷ later) ks next m l s h =
 
 pub choosing : (calls : List Call) → Choosing calls
 choosing [] m l s h = absurd (omega arith)
-choosing (read a ∷ ks) m l s h = choosing-asked ks (choosing ks) m l s h Kind.Read a 0
-choosing (write a x ∷ ks) m l s h = choosing-asked ks (choosing ks) m l s h Kind.Write a x
+choosing (request kind a x ∷ ks) m l s h = choosing-asked ks (choosing ks) m l s h kind a x
 choosing (slot bus ∷ ks) m l s h =
     by-test (isIdle (m .control .action))
     (λ e. rw e)
@@ -144,8 +143,7 @@ starting-slots (bus ∷ later) ks next m l h = starting-slots later ks next (slo
 
 pub started : (calls : List Call) → Starting calls
 started [] m l h = left-none (m .config) (m .past) (m .control .action) h
-started (read a ∷ ks) m l h = starting-asked ks (started ks) m l h Kind.Read a 0
-started (write a x ∷ ks) m l h = starting-asked ks (started ks) m l h Kind.Write a x
+started (request kind a x ∷ ks) m l h = starting-asked ks (started ks) m l h kind a x
 started (slot bus ∷ ks) m l h =
     started ks (slotOf m bus .machine) (slot-live l bus) (omega (arith, slot-sooner l bus))
 started (slots bus commands reports ∷ ks) m l h =

@@ -11,6 +11,7 @@ use Rattle.device.specs.View.{allClosed, marksOf, rowOf}
 use Rattle.device.specs.Rules.{R7, R12-open, R13-open, R14, requirements, legalOf, carriedOf}
 use Rattle.ages.specs.declared.Past.{Past}
 use Rattle.ages.specs.Ages.{pastOf, openIn, rowIn, openRows, agedOf, agesAfter, sentOf}
+use Rattle.queue.specs.declared.Kind.{Kind}
 use Rattle.queue.specs.Places.{kindIn, requestIn, requestAt, getOf, emptyOf, storedOf, acceptOf, shiftedOf, removeOf}
 use Rattle.queue.specs.Oldest.{blockedOf, readyOf, oldestOf}
 use Rattle.refresh.specs.Counting as counting
@@ -27,7 +28,7 @@ use Rattle.sequencer.specs.declared.Machine.{Machine}
 use Rattle.sequencer.specs.Machine.{machineWith, stepOf}
 use Rattle.sequencer.specs.Sound.{soundOf}
 use Rattle.sequencer.specs.Calls.{queuedRequest, enqueuedOf, requestOf, refusedWith, slotOf}
-use Rattle.model.specs.World.{Call, read, slot}
+use Rattle.model.specs.World.{Call, request, slot}
 use Rattle.model.specs.Condition.{firstService}
 use Rattle.progress.specs.Calls.{afterCalls, chooses}
 use Rattle.progress.specs.Progress.{startWithin, choiceWithin, workedOffWithin, refreshedNext, worksOff}
@@ -59,7 +60,7 @@ made a backlog = machineWith true slow rushed (record { interval = 1; backlog = 
 
 -- so many slots, after two requests
 abbrev busy : ℕ → List Call
-busy n = read 0 ∷ read 2048 ∷ replicate n (slot 0)
+busy n = request Kind.Read 0 0 ∷ request Kind.Read 2048 0 ∷ replicate n (slot 0)
 
 record Examples : Type 0 where
   -- the records are sound

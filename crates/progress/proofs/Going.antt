@@ -96,8 +96,7 @@ kept-sound =
     record {
       configured = λ cfg row ref tim e. configured-number cfg row ref tim e;
       blank = λ cfg row ref tim e. blank-number cfg row ref tim e;
-      read = λ m address. request-keeps m Kind.Read address 0;
-      write = λ m address halfword. request-keeps m Kind.Write address halfword;
+      request = request-keeps;
       slot = slot-keeps;
       slots = slots-keeps;
     }

@@ -4,14 +4,13 @@ use mathlib.Core.Bool.{Bool, false, _||_}
 use mathlib.Core.List.{List, [], _∷_}
 use Rattle.plan.specs.Actions.{isIdle}
 use Rattle.sequencer.specs.declared.Machine.{Machine}
-use Rattle.sequencer.specs.Calls.{readRequestOf, writeRequestOf, slotOf}
+use Rattle.sequencer.specs.Calls.{requestOf, slotOf}
 use Rattle.sequencer.specs.Batch.{countOf, manySlotsOf}
-use Rattle.model.specs.World.{Call, read, write, slot, slots, backlog, usedOf}
+use Rattle.model.specs.World.{Call, request, slot, slots, backlog, usedOf}
 
 -- the record after a call, and after a list of calls
 abbrev pub afterCall : Machine → Call → Machine
-afterCall m (read a) = readRequestOf m a .machine
-afterCall m (write a h) = writeRequestOf m a h .machine
+afterCall m (request kind a h) = requestOf m kind a h .machine
 afterCall m (slot bus) = slotOf m bus .machine
 afterCall m (slots bus commands reports) = manySlotsOf m bus commands reports .machine
 afterCall m backlog = m
@@ -23,8 +22,7 @@ afterCalls m (k ∷ ks) = afterCalls (afterCall m k) ks
 -- how many slots the calls run
 abbrev pub slotsIn : List Call → ℕ
 slotsIn [] = 0
-slotsIn (read a ∷ ks) = slotsIn ks
-slotsIn (write a h ∷ ks) = slotsIn ks
+slotsIn (request kind a h ∷ ks) = slotsIn ks
 slotsIn (slot bus ∷ ks) = slotsIn ks + 1
 slotsIn (slots bus commands reports ∷ ks) = slotsIn ks + countOf bus commands reports
 slotsIn (backlog ∷ ks) = slotsIn ks
@@ -37,8 +35,7 @@ choosesIn m (bus ∷ later) = isIdle (m .control .action) || choosesIn (slotOf m
 -- is a choice made in one of the calls' slots?
 abbrev pub chooses : Machine → List Call → Bool
 chooses m [] = false
-chooses m (read a ∷ ks) = chooses (afterCall m (read a)) ks
-chooses m (write a h ∷ ks) = chooses (afterCall m (write a h)) ks
+chooses m (request kind a h ∷ ks) = chooses (afterCall m (request kind a h)) ks
 chooses m (slot bus ∷ ks) = isIdle (m .control .action) || chooses (afterCall m (slot bus)) ks
 chooses m (slots bus commands reports ∷ ks) = choosesIn m (usedOf bus commands reports) || chooses (afterCall m (slots bus commands reports)) ks
 chooses m (backlog ∷ ks) = chooses m ks

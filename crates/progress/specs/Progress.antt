@@ -9,6 +9,7 @@ use lib.ListN.{length}
 use Rattle.config.specs.declared.Config.{Config}
 use Rattle.device.specs.View.{allClosed}
 use Rattle.ages.specs.Ages.{rowAt}
+use Rattle.queue.specs.declared.Kind.{Kind}
 use Rattle.queue.specs.declared.Found.the-variants.{Nothing}
 use Rattle.refresh.specs.declared.Level.{Level}
 use Rattle.refresh.specs.Urgency.{levelOf, runOf}
@@ -30,7 +31,7 @@ use Rattle.plan.specs.declared.Action.the-variants.{
 use Rattle.plan.specs.Actions.{inService}
 use Rattle.plan.specs.Choice.{rulesOf}
 use Rattle.sequencer.specs.declared.Machine.{Machine}
-use Rattle.sequencer.specs.Calls.{configureOf, recordNumberOf, readRequestOf, writeRequestOf, slotOf}
+use Rattle.sequencer.specs.Calls.{configureOf, recordNumberOf, requestOf, slotOf}
 use Rattle.sequencer.specs.Batch.{manySlotsOf}
 use Rattle.model.specs.World.{Call}
 use Rattle.model.specs.Condition.{firstService}
@@ -46,8 +47,7 @@ pub record Keeps (m next : Machine) : Type 0 where
 pub record KeptSound : Type 0 where
   pub configured : (cfg row ref tim : ℕ) → configureOf cfg row ref tim .number ≡ 0 → recordNumberOf (configureOf cfg row ref tim .machine) ≡ 0
   pub blank : (cfg row ref tim : ℕ) → (configureOf cfg row ref tim .number ≡ 0 → ⊥) → recordNumberOf (configureOf cfg row ref tim .machine) ≡ 8
-  pub read : (m : Machine) (address : ℕ) → Keeps m (readRequestOf m address .machine)
-  pub write : (m : Machine) (address halfword : ℕ) → Keeps m (writeRequestOf m address halfword .machine)
+  pub request : (m : Machine) (kind : Kind) (address halfword : ℕ) → Keeps m (requestOf m kind address halfword .machine)
   pub slot : (m : Machine) (bus : ℕ) → Keeps m (slotOf m bus .machine)
   pub slots : (m : Machine) (bus commands reports : List ℕ) → Keeps m (manySlotsOf m bus commands reports .machine)
 

@@ -60,8 +60,6 @@ use Rattle.sequencer.specs.Calls.{
   queuedRequest,
   enqueuedOf,
   requestOf,
-  readRequestOf,
-  writeRequestOf,
   slotOf,
   backlogOf,
 }
@@ -360,17 +358,17 @@ shownMany =
     ∷ ((0 ∷ 3 ∷ []) ∷ (6 ∷ 0x10001 ∷ 0x700000003 ∷ []) ∷ (0 ∷ 0 ∷ 0x100000002 ∷ []) ∷ [])
     ∷ []
 
--- `room`: a queue of eight that one request has left has room for one. `last`: the last number is given.
+-- `room`: a queue of eight that one request has left has room for one. `last`: the last number is given, and a read's halfword is not kept.
 record Examples : Type 0 where
   soundness : map soundOf sound ++ map soundOf unsound ≡ replicate 22 true ++ replicate 30 false
   configured : words ≡ record { number = 0; machine = machineOf e1 } ∷ map refused (1 ∷ 1 ∷ 1 ∷ 1 ∷ 2 ∷ 2 ∷ 3 ∷ [])
-  reads : map (λ f. readRequestOf (f .machine) (f .address)) refusals ≡ map unchanged refusals
-  writes : map (λ f. writeRequestOf (f .machine) (f .address) 7) refusals ≡ map unchanged refusals
+  reads : map (λ f. requestOf (f .machine) Kind.Read (f .address) 7) refusals ≡ map unchanged refusals
+  writes : map (λ f. requestOf (f .machine) Kind.Write (f .address) 7) refusals ≡ map unchanged refusals
   room :
-      writeRequestOf (serving (known true) (counted 9 0) false (removeOf (filled 8) 0) Idle) 512 7
+      requestOf (serving (known true) (counted 9 0) false (removeOf (filled 8) 0) Idle) Kind.Write 512 7
       ≡ record { number = 0; request = 9; machine = made e1 (known true) (counted 9 0) false (acceptOf (removeOf (filled 8) 0) (ask Kind.Write 9)) Idle 9 }
   last :
-      readRequestOf (made e1 (known false) (counted 27 0) true emptyOf Turnaround 4294967294) 262142
+      requestOf (made e1 (known false) (counted 27 0) true emptyOf Turnaround 4294967294) Kind.Read 262142 65535
       ≡ record {
         number = 0;
         request = 4294967295;

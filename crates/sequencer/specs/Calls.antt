@@ -34,9 +34,14 @@ recordNumberOf m = recordNumberBy (m .configured) (m .config) (m .past) (m .coun
 abbrev pub requestNumberOf : Machine → ℕ → ℕ
 requestNumberOf m address = requestNumberBy (m .configured) (m .config) (m .past) (m .counters) (m .control) (m .queue .count) (m .accepted) address
 
+-- the halfword that a request brings: a read brings none, and keeps 0 whatever is given
+abbrev pub ofWrite : Kind → ℕ → ℕ
+ofWrite Read given = 0
+ofWrite Write given = given
+
 -- a request that is accepted has the next number, and goes to the end of the queue
 unfoldable pub queuedRequest : Machine → Kind → ℕ → ℕ → Request
-queuedRequest m kind address halfword = requestFor kind (m .accepted + 1) address halfword
+queuedRequest m kind address halfword = requestFor kind (m .accepted + 1) address (ofWrite kind halfword)
 
 unfoldable pub enqueuedOf : Machine → Request → Requested
 enqueuedOf m r =
@@ -46,18 +51,12 @@ enqueuedOf m r =
       request = r .number;
     }
 
+-- one call for both kinds (document 02, (iii), in place of document 01's two)
 unfoldable pub requestOf : Machine → Kind → ℕ → ℕ → Requested
 requestOf m kind address halfword =
     cond (eqb (requestNumberOf m address) 0)
     (enqueuedOf m (queuedRequest m kind address halfword))
     (record { number = requestNumberOf m address; request = 0; machine = m })
-
--- the two calls; a read has no halfword
-abbrev pub readRequestOf : Machine → ℕ → Requested
-readRequestOf m address = requestOf m Read address 0
-
-abbrev pub writeRequestOf : Machine → ℕ → ℕ → Requested
-writeRequestOf m address halfword = requestOf m Write address halfword
 
 -- The slot: refused, its command is NOP and it reports nothing.
 unfoldable pub refusedWith : Machine → ℕ → Slot

@@ -1,4 +1,4 @@
-// Owns the machine and the calls on it: configuration, the read request, the write request, the slot, many slots, and the backlog.
+// Owns the machine and the calls on it: configuration, the request, the slot, many slots, and the backlog.
 use ages::Past;
 use command::Command;
 use config::Config;
@@ -20,11 +20,10 @@ ghost use Rattle.sequencer.specs.Calls.{
   configuredBy,
   configureOf,
   requestNumberOf,
+  ofWrite,
   queuedRequest,
   enqueuedOf,
   requestOf,
-  readRequestOf,
-  writeRequestOf,
   slotOf,
   backlogOf,
 };
@@ -136,6 +135,16 @@ fn room(number: u8, bus: usize, commands: usize, reports: usize) -> usize
     0
 }
 
+// The halfword that a request brings.
+fn of_write(kind: Kind, given: u16) -> u16
+    ensures { λ r. ⌜ r ≡ ofWrite kind given ⌝ }
+{
+    match kind {
+        Kind::Read => 0,
+        Kind::Write => given,
+    }
+}
+
 impl Machine {
     // The machine that four register words give.
     pub fn configure(cfg: u32, row: u32, refr: u32, tim: u32) -> Configured
@@ -175,7 +184,7 @@ impl Machine {
         Request {
             number: self.accepted + 1,
             address,
-            halfword,
+            halfword: of_write(kind, halfword),
             kind,
         }
     }
@@ -198,7 +207,7 @@ impl Machine {
         }
     }
 
-    // Both kinds of request, with the number that the tests gave.
+    // A request, with the number that the tests gave.
     fn answered(self, number: u8, kind: Kind, address: u32, halfword: u16) -> Requested
         requires { ⌜ number ≡ requestNumberOf self address ⌝ }
         ensures { λ r. ⌜ r ≡ requestOf self kind address halfword ⌝ }
@@ -214,9 +223,9 @@ impl Machine {
         self.accept(request)
     }
 
-    // Hands in a read request.
-    pub fn read(self, address: u32) -> Requested
-        ensures { λ r. ⌜ r ≡ readRequestOf self address ⌝ }
+    // Hands in a request of either kind; a halfword given with a read is ignored.
+    pub fn request(self, kind: Kind, address: u32, halfword: u16) -> Requested
+        ensures { λ r. ⌜ r ≡ requestOf self kind address halfword ⌝ }
     {
         let config = self.config;
         let past = self.past;
@@ -236,32 +245,7 @@ impl Machine {
             self.accepted,
             address,
         );
-        self.answered(number, Kind::Read, address, 0)
-    }
-
-    // Hands in a write request.
-    pub fn write(self, address: u32, halfword: u16) -> Requested
-        ensures { λ r. ⌜ r ≡ writeRequestOf self address halfword ⌝ }
-    {
-        let config = self.config;
-        let past = self.past;
-        let opened = past.opened;
-        let counters = self.counters;
-        let control = self.control;
-        let action = control.action;
-        let number = numbers::request_number(
-            self.configured,
-            config::accepted(config),
-            config,
-            &opened,
-            past.programmed,
-            counters,
-            action,
-            self.queue.count,
-            self.accepted,
-            address,
-        );
-        self.answered(number, Kind::Write, address, halfword)
+        self.answered(number, kind, address, halfword)
     }
 
     // The machine with the parts that slots change.

@@ -3,6 +3,7 @@
 use command::Command;
 use libc::STDOUT_FILENO;
 use plan::Report;
+use queue::Kind;
 use sequencer::Machine;
 
 // The halfword that is written, and that the SDRAM gives back.
@@ -184,7 +185,7 @@ fn configured() -> Machine {
 }
 
 fn after_write(m: Machine) -> Machine {
-    let answer = m.write(0, HALFWORD);
+    let answer = m.request(Kind::Write, 0, HALFWORD);
     tell(b"write to address 0, halfword ", HALFWORD as u64);
     tell(b": answer ", answer.number as u64);
     tell(b", request ", answer.request as u64);
@@ -193,7 +194,7 @@ fn after_write(m: Machine) -> Machine {
 }
 
 fn after_read(m: Machine) -> Machine {
-    let answer = m.read(0);
+    let answer = m.request(Kind::Read, 0, 0);
     tell(b"read of address 0: answer ", answer.number as u64);
     tell(b", request ", answer.request as u64);
     say(b"\n");

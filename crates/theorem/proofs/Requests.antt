@@ -11,14 +11,15 @@ use Rattle.config.specs.declared.Geometry.{Geometry}
 use Rattle.config.specs.Accepted.{Accepted}
 use Rattle.address.specs.Map.{capacityOf, addressNumberOf}
 use Rattle.queue.specs.declared.Kind.{Kind}
+use Rattle.queue.specs.declared.Kind.the-variants.{Read, Write}
 use Rattle.queue.specs.declared.Queue.{Queue}
 use Rattle.queue.specs.declared.Request.{Request}
 use Rattle.queue.specs.Places.{acceptOf}
 use Rattle.plan.specs.Actions.{inService}
 use Rattle.numbers.specs.Numbers.{lastNumber, roomNumberOf, requestNumberBy}
-use Rattle.sequencer.specs.Calls.{requestNumberOf, queuedRequest, enqueuedOf, requestOf}
+use Rattle.sequencer.specs.Calls.{requestNumberOf, ofWrite, queuedRequest, enqueuedOf, requestOf}
 use Rattle.sequencer.proofs.Laws.{RequestFacts, request-facts}
-use Rattle.model.specs.Flat.{taken, flatAfter}
+use Rattle.model.specs.Flat.{Flat, taken, flatAfter}
 use Rattle.model.specs.World.{World, afterRequest}
 use Rattle.model.specs.Condition.{askedNumber, Answered}
 use Rattle.theorem.proofs.Calls.{request-cases}
@@ -55,6 +56,16 @@ module _ {c : Config} {w : World} (a : Accepted c) (v : Whole c w) where
       (λ e. record { number = sym e ∙ asked address; accepted = λ z. ap (λ n. n + 1) (v .ordered .counted); refused = λ no′. absurd (no′ refl) })
       (λ no′. record { number = asked address; accepted = λ e. absurd (no′ e); refused = λ z. (refl, refl) })
 
+-- The halfword that a request brings: the flat memory sees no other, and it is one.
+taken-brought : (f : Flat) (kind : Kind) (address halfword : ℕ) → taken f kind address (ofWrite kind halfword) ≡ taken f kind address halfword
+unfolding taken
+taken-brought f Read address halfword = refl
+taken-brought f Write address halfword = refl
+
+brought-fits : (kind : Kind) (halfword : ℕ) → halfword < 65536 → ofWrite kind halfword < 65536
+brought-fits Read halfword fits = omega arith
+brought-fits Write halfword fits = fits
+
 -- An accepted request keeps the invariant, with the configuration that the machine holds.
 accept-count : (q : Queue) (r : Request) → q .count < 8 → acceptOf q r .count ≡ q .count + 1
 unfolding acceptOf
@@ -73,7 +84,11 @@ module _ (w : World) (v : Whole (w .machine .config) w) (kind : Kind) (address h
   request-ordered : Ordered (c .geometry) (acceptOf (w .machine .queue) r) (w .machine .control .action) (w .machine .accepted + 1) (w .sdram)
       (taken (w .flat) kind address halfword) (w .reported)
   unfolding queuedRequest
-  request-ordered = ordered-request (v .ordered) kind address halfword fits (room .room) (room .place)
+  request-ordered =
+      subst
+      (λ (f : Flat). Ordered (c .geometry) (acceptOf (w .machine .queue) r) (w .machine .control .action) (w .machine .accepted + 1) (w .sdram) f (w .reported))
+      (taken-brought (w .flat) kind address halfword)
+      (ordered-request (v .ordered) kind address (ofWrite kind halfword) (brought-fits kind halfword fits) (room .room) (room .place))
 
   request-timed : (b : Bool) → Phase c w b → Phase c next b
   unfolding afterRequest enqueuedOf

@@ -13,13 +13,12 @@ use Rattle.config.specs.Setting.{configOf, settingOf}
 use Rattle.config.proofs.Laws.{accepted}
 use Rattle.device.specs.History.{startLog}
 use Rattle.ages.proofs.Agree.{agrees-fresh}
-use Rattle.queue.specs.declared.Kind.{Kind}
 use Rattle.queue.specs.Places.{emptyOf}
 use Rattle.sequencer.specs.declared.Configured.{Configured}
 use Rattle.sequencer.specs.Calls.{configuredBy, configureOf}
 use Rattle.sequencer.specs.Machine.{blankOf, machineOf}
 use Rattle.model.specs.Sdram.{Cells, startSdram}
-use Rattle.model.specs.World.{World, halfwordOf, halfwordsOf, Call, read, write, slot, slots, backlog, startWorld, after}
+use Rattle.model.specs.World.{World, halfwordOf, halfwordsOf, Call, request, slot, slots, backlog, startWorld, after}
 use Rattle.model.specs.Condition.{Right, Promised, ThirdCondition}
 use Rattle.theorem.proofs.Order.Queue.{ordered-start}
 use Rattle.theorem.proofs.Ranges.{ranged-start}
@@ -33,8 +32,7 @@ use Rattle.theorem.proofs.Start.{starting-first}
 
 pub call-right : {c : Config} (w : World) → Accepted c → Whole c w → (k : Call) → Whole c (after c w k) × Right c w k
 unfolding after
-call-right w a v (read x) = (request-whole w v Kind.Read x 0 (omega arith), answered a v Kind.Read x 0)
-call-right w a v (write x h) = (request-whole w v Kind.Write x (halfwordOf h) (omega arith), answered a v Kind.Write x (halfwordOf h))
+call-right w a v (request kind x h) = (request-whole w v kind x (halfwordOf h) (omega arith), answered a v kind x (halfwordOf h))
 call-right w a v (slot any) = slot-right w a v any
 call-right {c} w a v (slots bus commands reports) = batch-right c w bus commands reports a v
 call-right w a v backlog = (v, exact a v)

@@ -1,7 +1,7 @@
 -- The number is the definition's.
 use borrow.Author.Needs.{needs}
-use Rattle.sequencer.proofs.Machine.write.Statement.{statement}
-use Rattle.sequencer.proofs.Machine.write.Tie as tie
+use Rattle.sequencer.proofs.Machine.request.Statement.{statement}
+use Rattle.sequencer.proofs.Machine.request.Tie as tie
 
 accepted-requires : tie.Need-accepted-requires
 accepted-requires c κs = search needs
@@ -15,6 +15,6 @@ answered-requires c κs = c .request-number .ensures _ _ _
 returns : tie.Need-returns
 returns c = search needs
 
-pub write-spec : {M : Type 1} → statement M
-write-spec =
+pub request-spec : {M : Type 1} → statement M
+request-spec =
     tie.close (tie.spec accepted-requires request-number-requires answered-requires returns)
