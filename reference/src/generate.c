@@ -139,12 +139,9 @@ static void write_request(struct author *a, enum request_kind kind, uint32_t add
         return;
     fputs(kind == READ_REQUEST ? "read" : "write", stdout);
     put_number(a, address);
-    if (kind == READ_REQUEST) {
-        machine_read(&a->machine, address);
-    } else {
+    if (kind == WRITE_REQUEST)
         put_number(a, halfword);
-        machine_write(&a->machine, address, halfword);
-    }
+    machine_request(&a->machine, kind, address, halfword);
 }
 
 static void write_read_or_write(struct author *a, uint32_t address)
@@ -239,7 +236,7 @@ static void write_longest_line(struct author *a)
     fputs("read ", stdout);
     put_times("0", 249);
     putchar('1');
-    machine_read(&a->machine, 1);
+    machine_request(&a->machine, READ_REQUEST, 1, 0);
 }
 
 /* ---- Halfwords that wait ---- */

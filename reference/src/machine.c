@@ -74,13 +74,15 @@ static enum number test_request(const struct machine *m, uint32_t address)
     return ACCEPTED;
 }
 
-static struct request_answer hand_in(struct machine *m, struct request r)
+struct request_answer machine_request(struct machine *m, enum request_kind kind, uint32_t address,
+                                      uint16_t halfword)
 {
-    struct request_answer a = {test_request(m, r.address), 0};
+    struct request_answer a = {test_request(m, address), 0};
 
     if (a.answer == ACCEPTED) {
+        struct request r = {m->accepted + 1, kind, address, kind == WRITE_REQUEST ? halfword : 0};
+
         m->accepted++;
-        r.number = m->accepted;
         m->queue[m->queued] = r;
         m->queued++;
         a.number = r.number;
@@ -88,20 +90,6 @@ static struct request_answer hand_in(struct machine *m, struct request r)
         m->accepted++;
     }
     return a;
-}
-
-struct request_answer machine_read(struct machine *m, uint32_t address)
-{
-    struct request r = {0, READ_REQUEST, address, 0};
-
-    return hand_in(m, r);
-}
-
-struct request_answer machine_write(struct machine *m, uint32_t address, uint16_t halfword)
-{
-    struct request r = {0, WRITE_REQUEST, address, halfword};
-
-    return hand_in(m, r);
 }
 
 static void leave_queue(struct machine *m, unsigned place)

@@ -88,8 +88,9 @@ struct slots_answer {
 
 void machine_blank(struct machine *m);
 enum number machine_configure(struct machine *m, struct words w);
-struct request_answer machine_read(struct machine *m, uint32_t address);
-struct request_answer machine_write(struct machine *m, uint32_t address, uint16_t halfword);
+/* Document 02, (iii): one call for both kinds; the halfword given with a read is ignored. */
+struct request_answer machine_request(struct machine *m, enum request_kind kind, uint32_t address,
+                                      uint16_t halfword);
 struct slot_answer machine_slot(struct machine *m, uint16_t bus);
 struct slots_answer machine_slots(struct machine *m, struct rows *r);
 struct backlog_answer machine_backlog(const struct machine *m);

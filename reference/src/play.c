@@ -111,9 +111,7 @@ static void play_config(struct player *p, const uint32_t *argument)
 static void play_request(struct player *p, enum request_kind kind, const uint32_t *argument)
 {
     struct request asked = {0, kind, argument[0], (uint16_t)argument[1]};
-    struct request_answer a = kind == READ_REQUEST
-                                  ? machine_read(&p->machine, asked.address)
-                                  : machine_write(&p->machine, asked.address, asked.halfword);
+    struct request_answer a = machine_request(&p->machine, kind, asked.address, asked.halfword);
 
     say(p, "%s %d %" PRIu32 "\n", kind == READ_REQUEST ? "read" : "write", a.answer, a.number);
     check_request(&p->check, asked, a);

@@ -68,6 +68,7 @@ fn mix_report(digest: u32, report: Report) -> u32 {
     }
 }
 
+// The kind of the stream's word x.
 fn kind_of(x: u32) -> Kind {
     if x / LOAD % 2 == 1 {
         return Kind::Write;

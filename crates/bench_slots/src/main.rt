@@ -57,6 +57,7 @@ fn mix_reading(digest: u32, machine: Machine) -> u32 {
     digest
 }
 
+// The kind of the stream's word x.
 fn kind_of(x: u32) -> Kind {
     if x / LOAD % 2 == 1 {
         return Kind::Write;

@@ -27,7 +27,8 @@ requestLine Read number request = line.Read number request
 requestLine Write number request = line.Write number request
 
 unfoldable pub requestPlayed : Machine → Kind → ℕ → ℕ → Played
-requestPlayed m kind address halfword = let r : Requested = requestOf m kind address halfword in playedOf (r .machine) (requestLine kind (r .number) (r .request))
+requestPlayed m kind address halfword =
+    let r : Requested = requestOf m kind address halfword in playedOf (r .machine) (requestLine kind (r .number) (r .request))
 
 unfoldable pub slotPlayed : Machine → ℕ → Played
 slotPlayed m bus = let r : Slot = slotOf m bus in playedOf (r .machine) (line.Slot (r .number) (r .command) (r .report))

@@ -35,7 +35,6 @@ pub fn configure(cfg: u32, row: u32, refr: u32, tim: u32) -> Played
     Played { machine, text }
 }
 
-// A request's line names its kind.
 fn request_line(kind: Kind, number: u8, request: u32) -> Answer
     ensures { λ r. ⌜ r ≡ requestLine kind number request ⌝ }
 {

@@ -1,5 +1,5 @@
--- Document 02, (iii): what the one call gives is what document 01's two calls gave. Their definitions are kept here alone, as they stood before that request
--- landed; both sides share `requestNumberOf`, `enqueuedOf` and `requestFor`, which it did not touch.
+-- Document 02, (iii): what the one call gives is what document 01's two calls gave. Their definitions are kept here alone, as they stood before (iii) landed,
+-- `Before` behind names that are still in use; both sides share `requestNumberOf`, `enqueuedOf` and `requestFor`, which it did not touch.
 use Prim.Native.Nat.{ℕ, _+_}
 use mathlib.Core.Path.{_≡_, refl}
 use mathlib.Core.Bool.{cond}
@@ -12,20 +12,20 @@ use Rattle.sequencer.specs.declared.Machine.{Machine}
 use Rattle.sequencer.specs.declared.Requested.{Requested}
 use Rattle.sequencer.specs.Calls.{requestNumberOf, queuedRequest, enqueuedOf, requestOf}
 
-abbrev queuedBefore : Machine → Kind → ℕ → ℕ → Request
-queuedBefore m kind address halfword = requestFor kind (m .accepted + 1) address halfword
+abbrev queuedRequestBefore : Machine → Kind → ℕ → ℕ → Request
+queuedRequestBefore m kind address halfword = requestFor kind (m .accepted + 1) address halfword
 
-abbrev requestedBefore : Machine → Kind → ℕ → ℕ → Requested
-requestedBefore m kind address halfword =
+abbrev requestOfBefore : Machine → Kind → ℕ → ℕ → Requested
+requestOfBefore m kind address halfword =
     cond (eqb (requestNumberOf m address) 0)
-    (enqueuedOf m (queuedBefore m kind address halfword))
+    (enqueuedOf m (queuedRequestBefore m kind address halfword))
     (record { number = requestNumberOf m address; request = 0; machine = m })
 
 abbrev pub readRequestOf : Machine → ℕ → Requested
-readRequestOf m address = requestedBefore m Read address 0
+readRequestOf m address = requestOfBefore m Read address 0
 
 abbrev pub writeRequestOf : Machine → ℕ → ℕ → Requested
-writeRequestOf m address halfword = requestedBefore m Write address halfword
+writeRequestOf m address halfword = requestOfBefore m Write address halfword
 
 -- For every record and argument: the number, the request's number and the record after it.
 pub record SameAsTwo : Type 0 where

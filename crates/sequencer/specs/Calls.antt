@@ -34,7 +34,7 @@ recordNumberOf m = recordNumberBy (m .configured) (m .config) (m .past) (m .coun
 abbrev pub requestNumberOf : Machine → ℕ → ℕ
 requestNumberOf m address = requestNumberBy (m .configured) (m .config) (m .past) (m .counters) (m .control) (m .queue .count) (m .accepted) address
 
--- the halfword that a request brings: a read brings none, and keeps 0 whatever is given
+-- the halfword that a request keeps, of the one that is given: a read keeps 0
 abbrev pub ofWrite : Kind → ℕ → ℕ
 ofWrite Read given = 0
 ofWrite Write given = given

@@ -135,7 +135,7 @@ fn room(number: u8, bus: usize, commands: usize, reports: usize) -> usize
     0
 }
 
-// The halfword that a request brings.
+// The halfword that a request keeps.
 fn of_write(kind: Kind, given: u16) -> u16
     ensures { λ r. ⌜ r ≡ ofWrite kind given ⌝ }
 {

@@ -56,15 +56,15 @@ module _ {c : Config} {w : World} (a : Accepted c) (v : Whole c w) where
       (λ e. record { number = sym e ∙ asked address; accepted = λ z. ap (λ n. n + 1) (v .ordered .counted); refused = λ no′. absurd (no′ refl) })
       (λ no′. record { number = asked address; accepted = λ e. absurd (no′ e); refused = λ z. (refl, refl) })
 
--- The halfword that a request brings: the flat memory sees no other, and it is one.
-taken-brought : (f : Flat) (kind : Kind) (address halfword : ℕ) → taken f kind address (ofWrite kind halfword) ≡ taken f kind address halfword
+-- The halfword that a request keeps: the flat memory looks at no other, and it is below 65,536.
+taken-kept : (f : Flat) (kind : Kind) (address halfword : ℕ) → taken f kind address (ofWrite kind halfword) ≡ taken f kind address halfword
 unfolding taken
-taken-brought f Read address halfword = refl
-taken-brought f Write address halfword = refl
+taken-kept f Read address halfword = refl
+taken-kept f Write address halfword = refl
 
-brought-fits : (kind : Kind) (halfword : ℕ) → halfword < 65536 → ofWrite kind halfword < 65536
-brought-fits Read halfword fits = omega arith
-brought-fits Write halfword fits = fits
+kept-fits : (kind : Kind) (halfword : ℕ) → halfword < 65536 → ofWrite kind halfword < 65536
+kept-fits Read halfword fits = omega arith
+kept-fits Write halfword fits = fits
 
 -- An accepted request keeps the invariant, with the configuration that the machine holds.
 accept-count : (q : Queue) (r : Request) → q .count < 8 → acceptOf q r .count ≡ q .count + 1
@@ -87,8 +87,8 @@ module _ (w : World) (v : Whole (w .machine .config) w) (kind : Kind) (address h
   request-ordered =
       subst
       (λ (f : Flat). Ordered (c .geometry) (acceptOf (w .machine .queue) r) (w .machine .control .action) (w .machine .accepted + 1) (w .sdram) f (w .reported))
-      (taken-brought (w .flat) kind address halfword)
-      (ordered-request (v .ordered) kind address (ofWrite kind halfword) (brought-fits kind halfword fits) (room .room) (room .place))
+      (taken-kept (w .flat) kind address halfword)
+      (ordered-request (v .ordered) kind address (ofWrite kind halfword) (kept-fits kind halfword fits) (room .room) (room .place))
 
   request-timed : (b : Bool) → Phase c w b → Phase c next b
   unfolding afterRequest enqueuedOf
