@@ -35,13 +35,13 @@ abbrev pub requestNumberOf : Machine → ℕ → ℕ
 requestNumberOf m address = requestNumberBy (m .configured) (m .config) (m .past) (m .counters) (m .control) (m .queue .count) (m .accepted) address
 
 -- the halfword that a request keeps, of the one that is given: a read keeps 0
-abbrev pub ofWrite : Kind → ℕ → ℕ
-ofWrite Read given = 0
-ofWrite Write given = given
+abbrev pub halfwordFor : Kind → ℕ → ℕ
+halfwordFor Read given = 0
+halfwordFor Write given = given
 
 -- a request that is accepted has the next number, and goes to the end of the queue
 unfoldable pub queuedRequest : Machine → Kind → ℕ → ℕ → Request
-queuedRequest m kind address halfword = requestFor kind (m .accepted + 1) address (ofWrite kind halfword)
+queuedRequest m kind address halfword = requestFor kind (m .accepted + 1) address (halfwordFor kind halfword)
 
 unfoldable pub enqueuedOf : Machine → Request → Requested
 enqueuedOf m r =

@@ -20,7 +20,7 @@ ghost use Rattle.sequencer.specs.Calls.{
   configuredBy,
   configureOf,
   requestNumberOf,
-  ofWrite,
+  halfwordFor,
   queuedRequest,
   enqueuedOf,
   requestOf,
@@ -136,8 +136,8 @@ fn room(number: u8, bus: usize, commands: usize, reports: usize) -> usize
 }
 
 // The halfword that a request keeps.
-fn of_write(kind: Kind, given: u16) -> u16
-    ensures { λ r. ⌜ r ≡ ofWrite kind given ⌝ }
+fn halfword_for(kind: Kind, given: u16) -> u16
+    ensures { λ r. ⌜ r ≡ halfwordFor kind given ⌝ }
 {
     match kind {
         Kind::Read => 0,
@@ -184,7 +184,7 @@ impl Machine {
         Request {
             number: self.accepted + 1,
             address,
-            halfword: of_write(kind, halfword),
+            halfword: halfword_for(kind, halfword),
             kind,
         }
     }

@@ -17,7 +17,7 @@ use Rattle.queue.specs.declared.Request.{Request}
 use Rattle.queue.specs.Places.{acceptOf}
 use Rattle.plan.specs.Actions.{inService}
 use Rattle.numbers.specs.Numbers.{lastNumber, roomNumberOf, requestNumberBy}
-use Rattle.sequencer.specs.Calls.{requestNumberOf, ofWrite, queuedRequest, enqueuedOf, requestOf}
+use Rattle.sequencer.specs.Calls.{requestNumberOf, halfwordFor, queuedRequest, enqueuedOf, requestOf}
 use Rattle.sequencer.proofs.Laws.{RequestFacts, request-facts}
 use Rattle.model.specs.Flat.{Flat, taken, flatAfter}
 use Rattle.model.specs.World.{World, afterRequest}
@@ -57,12 +57,12 @@ module _ {c : Config} {w : World} (a : Accepted c) (v : Whole c w) where
       (λ no′. record { number = asked address; accepted = λ e. absurd (no′ e); refused = λ z. (refl, refl) })
 
 -- The halfword that a request keeps: the flat memory looks at no other, and it is below 65,536.
-taken-kept : (f : Flat) (kind : Kind) (address halfword : ℕ) → taken f kind address (ofWrite kind halfword) ≡ taken f kind address halfword
+taken-kept : (f : Flat) (kind : Kind) (address halfword : ℕ) → taken f kind address (halfwordFor kind halfword) ≡ taken f kind address halfword
 unfolding taken
 taken-kept f Read address halfword = refl
 taken-kept f Write address halfword = refl
 
-kept-fits : (kind : Kind) (halfword : ℕ) → halfword < 65536 → ofWrite kind halfword < 65536
+kept-fits : (kind : Kind) (halfword : ℕ) → halfword < 65536 → halfwordFor kind halfword < 65536
 kept-fits Read halfword fits = omega arith
 kept-fits Write halfword fits = fits
 
@@ -88,7 +88,7 @@ module _ (w : World) (v : Whole (w .machine .config) w) (kind : Kind) (address h
       subst
       (λ (f : Flat). Ordered (c .geometry) (acceptOf (w .machine .queue) r) (w .machine .control .action) (w .machine .accepted + 1) (w .sdram) f (w .reported))
       (taken-kept (w .flat) kind address halfword)
-      (ordered-request (v .ordered) kind address (ofWrite kind halfword) (kept-fits kind halfword fits) (room .room) (room .place))
+      (ordered-request (v .ordered) kind address (halfwordFor kind halfword) (kept-fits kind halfword fits) (room .room) (room .place))
 
   request-timed : (b : Bool) → Phase c w b → Phase c next b
   unfolding afterRequest enqueuedOf

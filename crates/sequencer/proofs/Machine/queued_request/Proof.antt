@@ -7,12 +7,12 @@ use Rattle.sequencer.specs.Calls.{queuedRequest}
 add-t5 : tie.Need-add-t5
 add-t5 c = search needs
 
-of-write-requires : tie.Need-of-write-requires
-of-write-requires c κs = search needs
+halfword-for-requires : tie.Need-halfword-for-requires
+halfword-for-requires c κs = search needs
 
 returns : tie.Need-returns
 unfolding queuedRequest
-returns c = simp (← c .of-write .ensures)
+returns c = simp (← c .halfword-for .ensures)
 
 pub queued-request-spec : {M : Type 1} → statement M
-queued-request-spec = tie.close (tie.spec add-t5 of-write-requires returns)
+queued-request-spec = tie.close (tie.spec add-t5 halfword-for-requires returns)
