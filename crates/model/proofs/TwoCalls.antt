@@ -1,11 +1,10 @@
 -- Document 02, (iii), in the third condition: its list had document 01's two calls in place of the request. That claim is kept here alone, as it stood before (iii)
 -- landed, over the two calls' own definitions (sequencer's TwoCalls) and today's `Standing`, `Answered`, `Carried`, `CarriedAll` and `Exact`. It is the claim of today.
 use Prim.Native.Nat.{ℕ}
-use mathlib.Core.Path.{_≡_, refl, sym, ap, subst, _∙_}
+use mathlib.Core.Path.{_≡_, refl, ap, _∙_}
 use mathlib.Core.List.{List, [], _∷_, map}
 use Rattle.config.specs.declared.Config.{Config}
 use Rattle.config.specs.Setting.{configOf}
-use Rattle.queue.specs.declared.Kind.{Kind}
 use Rattle.queue.specs.declared.Kind.the-variants.{Read, Write}
 use Rattle.sequencer.specs.Calls.{configureOf, queuedRequest, requestOf, backlogOf}
 use Rattle.sequencer.specs.Batch.{countOf}
