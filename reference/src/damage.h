@@ -27,12 +27,20 @@ enum damage {
     FORGET_R13,
     FORGET_R14, /* and REFR without DEAC */
     FORGET_R15,
+    FORGET_R16,
 
     /* Half a rule forgotten. */
     PRE_WITHOUT_TRAS,
     PRE_WITHOUT_TWR,
     DEAC_WITHOUT_TRAS,
     DEAC_WITHOUT_TWR,
+    R16_OF_BANK_0_ONLY,
+    R16_OF_LAST_BANK_ONLY, /* the one of the last READ or WRT */
+    R16_OF_OPEN_BANKS_ONLY,
+
+    /* A rule for commands that do not have it. */
+    R16_FOR_MRS_TOO, /* no machine shows it: MRS comes before the first ACT */
+    R16_FOR_DEAC_TOO,
 
     /* A distance one slot short, or one slot long. */
     SHORT_TRFC,
@@ -70,6 +78,11 @@ enum damage {
     RR_FIVE_SPANS,
     RR_ABOVE_LEAST,
     SPAN_WITHOUT_TWR,
+    REFRESH_SPAN_WITHOUT_TRC,
+    REFRESH_SPAN_BY_SMALLER,
+    REFRESH_SPAN_BY_SUM,
+    REFRESH_SPAN_TRFC_WITHIN, /* the larger of M + tRP and tRC + tRFC */
+    ACCESS_SPAN_BY_LARGER,    /* of M + tRP and tRC, in place of their sum */
     CAPACITY_TWO_MORE,
     CAPACITY_TWO_LESS,
     CAPACITY_BEFORE_ODD,

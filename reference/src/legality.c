@@ -79,7 +79,7 @@ static bool kept(const struct history *h, uint64_t now, unsigned distance, enum 
     return true;
 }
 
-/* ---- R1 to R15 ---- */
+/* ---- R1 to R16 ---- */
 
 /* R1: bank, row and column lie in the geometry; the MRS word is 16 x CL. */
 static bool r1_holds(const struct configuration *c, struct command x)
@@ -101,6 +101,13 @@ static bool kept_in_open_banks(const struct history *h, uint64_t now, unsigned d
     return true;
 }
 
+/* REFR alone, document 02, (iv). */
+static bool has_r16(enum command_kind kind)
+{
+    return kind == REFR || (DAMAGED(R16_FOR_MRS_TOO) && kind == MRS) ||
+           (DAMAGED(R16_FOR_DEAC_TOO) && kind == DEAC);
+}
+
 /* A set of rules, bit n for Rn. */
 static unsigned rule(unsigned n)
 {
@@ -120,6 +127,8 @@ static unsigned broken_rules(const struct configuration *c, const struct history
     if (x.kind == NOP)
         return 0;
     broken |= unless(r1_holds(c, x), 1);
+    if (x.bank >= MOST_BANKS)
+        return broken; /* R1 it is, and of such a bank nothing is kept */
     broken |= unless(kept(h, now, c->tRFC, REFR, ANY_BANK), 2);
     broken |= unless(kept(h, now, 2, MRS, ANY_BANK), 2);
 
@@ -152,6 +161,10 @@ static unsigned broken_rules(const struct configuration *c, const struct history
         broken |= unless(kept(h, now, c->tRP, PRE, ANY_BANK), 15);
         broken |= unless(kept(h, now, c->tRP, DEAC, ANY_BANK), 15);
     }
+    if (has_r16(x.kind)) {
+        /* The latest ACT of all banks decides; no bank's own is later. */
+        broken |= unless(kept(h, now, c->tRC, ACT, ANY_BANK), 16);
+    }
     return broken;
 }
 
@@ -174,7 +187,7 @@ static unsigned last_used_bank(const struct history *h)
 static unsigned forgotten_rules(const struct configuration *c, const struct history *h, uint64_t now,
                                 enum command_kind kind)
 {
-    if (DAMAGE >= FORGET_R1 && DAMAGE <= FORGET_R15)
+    if (DAMAGE >= FORGET_R1 && DAMAGE <= FORGET_R16)
         return rule(DAMAGE - FORGET_R1 + 1);
     if (DAMAGED(SHORT_AFTER_MRS) && kept(h, now, c->tRFC, REFR, ANY_BANK))
         return rule(2);
@@ -189,6 +202,12 @@ static unsigned forgotten_rules(const struct configuration *c, const struct hist
     if (DAMAGED(TWR_OF_LAST_BANK_ONLY) && kind == DEAC &&
         kept_in_open_banks(h, now, c->tWR, WRT, last_used_bank(h)))
         return rule(13);
+    if (DAMAGED(R16_OF_BANK_0_ONLY) && kept(h, now, c->tRC, ACT, only(0)))
+        return rule(16);
+    if (DAMAGED(R16_OF_LAST_BANK_ONLY) && kept(h, now, c->tRC, ACT, last_used_bank(h)))
+        return rule(16);
+    if (DAMAGED(R16_OF_OPEN_BANKS_ONLY) && kept_in_open_banks(h, now, c->tRC, ACT, ANY_BANK))
+        return rule(16);
     return 0;
 }
 

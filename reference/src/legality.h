@@ -1,4 +1,4 @@
-/* Document 01, "Commands and their distances": R1 to R15 over the list of past commands. */
+/* Document 01, "Commands and their distances": R1 to R16 over the list of past commands. */
 #ifndef LEGALITY_H
 #define LEGALITY_H
 
@@ -31,7 +31,7 @@ void history_begin(struct history *h);
 void history_send(struct history *h, uint64_t slot, struct command sent);
 bool all_banks_closed(const struct history *h);
 
-/* May `next` be sent in slot `now`? Its bank is below MOST_BANKS. */
+/* May `next` be sent in slot `now`? It may name any bank. */
 bool legal(const struct configuration *c, const struct history *h, uint64_t now, struct command next);
 
 #endif

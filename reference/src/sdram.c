@@ -43,7 +43,7 @@ void sdram_end(struct sdram *s)
     memory_end(&s->cells);
 }
 
-/* ---- R1 to R15, in the coming slot: s->slot has already been counted up ---- */
+/* ---- R1 to R16, in the coming slot: s->slot has already been counted up ---- */
 
 static bool since(const struct sdram *s, uint64_t past, unsigned distance)
 {
@@ -119,6 +119,17 @@ static unsigned breaks_refr_or_mrs(const struct sdram *s)
     return 0;
 }
 
+/* R16 comes on top, for REFR only. */
+static unsigned breaks_refr(const struct sdram *s)
+{
+    unsigned b, rule = breaks_refr_or_mrs(s);
+
+    for (b = 0; b < MOST_BANKS && rule == 0; b++)
+        if (!since(s, s->bank[b].last_act, s->c.tRC))
+            rule = 16;
+    return rule;
+}
+
 static bool names_outside(const struct sdram *s, struct command x)
 {
     return x.bank >= 1u << s->c.geometry.bank_bits || x.row >= 1u << s->c.geometry.row_bits ||
@@ -143,6 +154,8 @@ static unsigned broken_rule(const struct sdram *s, struct command x)
         return s->bank[x.bank].open ? breaks_closing(s, &s->bank[x.bank]) : 11;
     case DEAC:
         return breaks_deac(s);
+    case REFR:
+        return breaks_refr(s);
     default:
         return breaks_refr_or_mrs(s);
     }

@@ -1,6 +1,6 @@
 /*
  * Document 01's plain SDRAM. It sees the commands alone, one a slot, and keeps its own record of them.
- * R1 to R15 are written a second time here, on the last command of each kind, so that a mistake in
+ * R1 to R16 are written a second time here, on the last command of each kind, so that a mistake in
  * legality.c shows as a rejected command.
  */
 #ifndef SDRAM_H

@@ -70,14 +70,46 @@ static struct configuration read_fields(struct words w)
     return c;
 }
 
+static unsigned larger(unsigned x, unsigned y)
+{
+    return x < y ? y : x;
+}
+
+static unsigned smaller(unsigned x, unsigned y)
+{
+    return x < y ? x : y;
+}
+
+static unsigned access_span(const struct configuration *c, unsigned M)
+{
+    unsigned rows = M + c->tRP + c->tRC;
+
+    if (DAMAGED(ACCESS_SPAN_BY_LARGER))
+        rows = larger(M + c->tRP, c->tRC);
+    return rows + c->tRRD + c->tRCD + c->CL + 2;
+}
+
+/* Document 02, (iv): a row cycle that is longer than closing the banks takes counts in its place. */
+static unsigned refresh_span(const struct configuration *c, unsigned M)
+{
+    unsigned closing = M + c->tRP;
+
+    if (DAMAGED(REFRESH_SPAN_WITHOUT_TRC))
+        return closing + c->tRFC;
+    if (DAMAGED(REFRESH_SPAN_BY_SMALLER))
+        return smaller(closing, c->tRC) + c->tRFC;
+    if (DAMAGED(REFRESH_SPAN_BY_SUM))
+        return closing + c->tRC + c->tRFC;
+    if (DAMAGED(REFRESH_SPAN_TRFC_WITHIN))
+        return larger(closing, c->tRC + c->tRFC);
+    return larger(closing, c->tRC) + c->tRFC;
+}
+
 unsigned least_rr(const struct configuration *c)
 {
-    unsigned larger = c->tRAS > c->tWR ? c->tRAS : c->tWR;
-    unsigned M = SLIP(SPAN_WITHOUT_TWR, larger, c->tRAS);
-    unsigned A = M + c->tRP + c->tRC + c->tRRD + c->tRCD + c->CL + 2;
-    unsigned F = M + c->tRP + c->tRFC;
+    unsigned M = SLIP(SPAN_WITHOUT_TWR, larger(c->tRAS, c->tWR), c->tRAS);
 
-    return A + SLIP(RR_FIVE_SPANS, 6, 5) * F;
+    return access_span(c, M) + SLIP(RR_FIVE_SPANS, 6, 5) * refresh_span(c, M);
 }
 
 enum number configure(struct words w, struct configuration *c)
