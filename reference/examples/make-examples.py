@@ -443,6 +443,105 @@ def unlike_distances():
     run.store("unlike-distances", 1670)
 
 
+def row_cycle_least_rr():
+    """Document 02, (iv), and number 3: F where tRC is far above, just above, equal to, just below and far below M + tRP."""
+    pairs = []
+    for cfg, tim, least in (
+            ("0x4400", "0x01002300", 51),       # tRP 2, tRAS 3, tRC 4, all others 1: M 3, A 15, M + tRP 5, F 6
+            ("0x4400", "0x01002400", 52),       # tRC 5: A 16, F 6
+            ("0x4400", "0x01002500", 59),       # tRC 6: A 17, F 7
+            ("0x4400", "0x00031600", 66),       # tWR 4, tRAS 2, tRC 7, all others 1: M 4, A 18, M + tRP 5, F 8
+            ("0x4400", "0xF8000F00", 312),      # tRFC 32, tRC 16, all others 1: A 24, F 48
+            ("0x4600", "0x00000F00", 127),      # CL 3, tRC 16, all others 1: A 25, F 17
+            ("0x4600", "0xFF77F070", 382)):     # CL 3, tRC 1, all others full: A 46, F 56
+        pairs += [("config %s 0 %d %s" % (cfg, least, tim), "config 0"), ("config %s 0 %d %s" % (cfg, least - 1, tim), "config 3")]
+    dialogue("row-cycle-least-rr", pairs)
+
+
+def row_cycle():
+    """R16. CL 2, 4 banks, 8 column bits, 13 row bits; tRFC 7, tRP 2, tRCD 4, tWR 3, tRAS 5, tRC 12, tRRD 6. M 5, A 33, M + tRP 7, F 19:
+    least RR 147. 1176 slots NOP; DEAC; tRP to the first REFR; tRFC to the next and to MRS; one NOP. Expiries 1383, 1530, 1677, 1824, 1971."""
+    run = Run("0x4420 4 147 0x31324B50")
+    run.call(1, "config 0x4420 4 146 0x31324B50", "config 3")
+    run.call(1, "config 0x4420 4 147 0x31324B50", "config 0")
+    run.at(1177, "DEAC")
+    for slot in range(1179, 1228 + 1, 7):
+        run.at(slot, "REFR")
+    run.at(1235, "MRS 32")
+    run.write(1, "0", 41)               # bank 0, which stays open: backlog 1 to 3 waits
+    run.at(1237, "ACT 0 0")
+    run.written(1241, 1, 0, 0, 41)
+    run.write(1823, "0x200", 42)        # bank 1, one slot before the fourth expiry
+    run.at(1823, "ACT 1 0")
+    run.backlog_after(1823, 3)
+    run.written(1827, 2, 1, 0, 42)
+    run.backlog_after(1827, 4)
+    run.refresh(1830, 1835)             # chosen in 1828; tWR; tRC after 1823, where tRP would be over in 1832
+    run.backlog_after(1834, 4)
+    run.backlog_after(1835, 3)
+    for deac in (1842, 1851, 1860):     # tRFC after the REFR before it; all banks are closed
+        run.refresh(deac, deac + 2)
+    run.backlog_after(1862, 0)
+    run.refresh(1971, 1973)             # no ACT since
+    run.store("row-cycle", 1980)
+
+
+def row_cycle_other_bank():
+    """R16 by a bank that is neither the last one used nor bank 0, and two banks less than tRC after their ACT. CL 2, 4 banks, 8 column bits,
+    9 row bits; tRFC 3, tRP 2, tRCD 1, tWR 1, tRAS 3, tRC 16, tRRD 2. M 3, A 28, M + tRP 5, F 19: least RR 142. Expiries 1306, 1448, 1590, 1732."""
+    run = Run("0x4420 0 142 0x11002F10")
+    run.call(1, "config 0x4420 0 141 0x11002F10", "config 3")
+    run.call(1, "config 0x4420 0 142 0x11002F10", "config 0")
+    run.at(1137, "DEAC")
+    for slot in range(1139, 1160 + 1, 3):
+        run.at(slot, "REFR")
+    run.at(1163, "MRS 32")
+    run.write(1, "0", 51)               # bank 0 stays open
+    run.at(1165, "ACT 0 0")
+    run.written(1166, 1, 0, 0, 51)
+    run.write(1729, "0x200", 52)        # bank 1
+    run.write(1729, "0x400", 53)        # bank 2
+    run.write(1729, "2", 54)            # bank 0, the open row
+    run.at(1729, "ACT 1 0")
+    run.written(1730, 2, 1, 0, 52)
+    run.at(1731, "ACT 2 0")             # tRRD
+    run.written(1732, 3, 2, 0, 53)
+    run.written(1733, 4, 0, 1, 54)      # rule 4 before rule 5
+    run.refresh(1734, 1747)             # tRAS after 1731; tRC after 1731, in bank 1 after 1729; tRP would be over in 1736
+    for deac in (1750, 1755, 1760):
+        run.refresh(deac, deac + 2)
+    run.backlog_after(1762, 0)
+    run.store("row-cycle-other-bank", 1770)
+
+
+def row_cycle_must_run():
+    """R16 in the first refresh of a Must run. CL 2, 2 banks; tRFC 2, tRC 8, all others 1. M 1, A 16, M + tRP 2, F 10: least RR 76. 608 slots
+    NOP, DEAC 609, REFR every other slot from 610 to 624, MRS 626, NOP 627. Expiries 703, 779, ... each 76, the 12th in 1539."""
+    run = Run("0x4410 0 76 0x08000700")
+    run.call(1, "config 0x4410 0 75 0x08000700", "config 3")
+    run.call(1, "config 0x4410 0 76 0x08000700", "config 0")
+    run.at(609, "DEAC")
+    for slot in range(610, 624 + 1, 2):
+        run.at(slot, "REFR")
+    run.at(626, "MRS 32")
+    endless_reads(run, 628, 1533)       # 227 reads; tRCD and CL are E1's
+    run.read(1534, "0x200")             # bank 1
+    run.at(1537, "ACT 1 0")
+    run.at(1538, "READ 1 0")
+    run.data(1540, 228, first_contents(1, 0, 0))
+    run.read(1538, "0")                 # waits through the Must run
+    run.backlog_after(1538, 11)
+    run.backlog_after(1539, 12)
+    run.refresh(1542, 1545)             # tRC after 1537, where tRP would be over in 1543
+    for deac in (1547, 1550, 1553, 1556):
+        run.refresh(deac, deac + 1)
+    run.backlog_after(1557, 7)
+    run.at(1559, "ACT 0 0")
+    run.at(1560, "READ 0 0")
+    run.data(1562, 229, first_contents(0, 0, 0))
+    run.store("row-cycle-must-run", 1563)
+
+
 def geometries():
     """Each of the 60 geometries on E1's distances, with CL 2 and RR 27, or CL 3 and RR 28 (A is one more): the device's last halfword and the
     one that is all but the lowest bits, by the map and by a machine that writes the first and reads the second."""
@@ -775,6 +874,7 @@ def last_number():
 if __name__ == "__main__":
     e1_to_e4()
     for example in (e5, e6, e7, e8, e9, e10, e11, e12, must_run, must_only_at_a_choice, need_with_blocked_read,
-                    write_before_release, oldest_read_first, tight_distances, unlike_distances, geometries, numbers, form, slots, slots_one_row, slots_must_run,
-                    slots_form, tape_e5, tape_e7, tape_only_slots, tapes, last_number):
+                    write_before_release, oldest_read_first, tight_distances, unlike_distances, row_cycle, row_cycle_other_bank, row_cycle_must_run,
+                    row_cycle_least_rr, geometries, numbers, form, slots, slots_one_row, slots_must_run, slots_form, tape_e5, tape_e7,
+                    tape_only_slots, tapes, last_number):
         example()
