@@ -1,7 +1,8 @@
 #!/bin/sh
 # damages.sh: builds every damage of src/damage.h and wants each one found,
 #   by an example that it answers with other lines or another tape, or
-#   by a claim that `check` or tapes.sh finds broken on a script or tape that the damaged build wrote for itself.
+#   by a claim that `check` or tapes.sh finds broken on a script or tape that the damaged build wrote for itself, or
+#   by a command about which its legality.c and the SDRAM, which is never damaged, differ in `rules`.
 # The table names the first of each. Its last column says for which of the sound program's scripts and
 # random tapes the damaged build gives other lines or another tape; that is how another program would be
 # compared with this one.
@@ -12,12 +13,13 @@ work=build/damages
 damaged=$work/reference
 seeds='5 6 8 12'
 calls=60000
+commands=20000
 mkdir -p $work
 
 # Only these know of damages; the rest is linked as it is.
 sources='src/words.c src/legality.c src/machine.c src/play.c src/tape.c src/show.c'
 objects='build/main.o build/command.o build/script.o build/sdram.o build/memory.o build/check.o
-    build/random.o build/scrap.o build/generate.o'
+    build/rules.o build/random.o build/scrap.o build/generate.o'
 
 wrong() {
     echo "WRONG: $*" >&2
@@ -67,6 +69,21 @@ find_claim() {
     done
 }
 
+find_rule() {
+    for seed in $seeds; do
+        status=0
+        $damaged rules $seed $commands >$work/message || status=$?
+        case $status in
+        0) ;;
+        1)
+            sed 's/^config .*, slot [0-9]*, \([A-Z]*\).*, sdram/\1, sdram/' $work/message
+            return
+            ;;
+        *) wrong "$1: rules ends with $status on seed $seed" ;;
+        esac
+    done
+}
+
 find_script() {
     for name in $seeds $tapes; do
         if differs_on "$work/$name"; then
@@ -96,15 +113,15 @@ cp build/tapes/long $work/tape-long.tape
 
 # The sound build is not found, nor is the one that differs only in its last request number.
 build SOUND
-[ -z "$(find_example)$(find_claim SOUND)$(find_script)" ] || wrong "the sound build is found"
+[ -z "$(find_example)$(find_claim SOUND)$(find_rule SOUND)$(find_script)" ] || wrong "the sound build is found"
 build SOUND -DLAST_NUMBER=8
 if differs_on examples/last-number-8; then wrong "example last-number-8"; fi
 
 count=0
 found=0
-row='%-30s %-23s %-75s %s\n'
+row='%-30s %-23s %-75s %-32s %s\n'
 # shellcheck disable=SC2059
-printf "$row" 'damage' 'first example' 'first claim' 'script'
+printf "$row" 'damage' 'first example' 'first claim' 'rules' 'script'
 for name in $(sed -n '/^enum damage/,/^}/s/^    \([A-Z][A-Z0-9_]*\),\{0,1\}.*/\1/p' src/damage.h); do
     case $name in
     SOUND) continue ;;
@@ -112,19 +129,21 @@ for name in $(sed -n '/^enum damage/,/^}/s/^    \([A-Z][A-Z0-9_]*\),\{0,1\}.*/\1
         build $name -DLAST_NUMBER=8
         example=$(if differs_on examples/last-number-8; then echo last-number-8; fi)
         claim=
+        rule=
         script=
         ;;
     *)
         build "$name"
         example=$(find_example)
         claim=$(find_claim "$name")
+        rule=$(find_rule "$name")
         script=$(find_script)
         ;;
     esac
     # shellcheck disable=SC2059
-    printf "$row" "$name" "${example:--}" "${claim:--}" "${script:--}"
+    printf "$row" "$name" "${example:--}" "${claim:--}" "${rule:--}" "${script:--}"
     count=$((count + 1))
-    if [ -n "$example$claim" ]; then found=$((found + 1)); else echo "NOT FOUND: $name"; fi
+    if [ -n "$example$claim$rule" ]; then found=$((found + 1)); else echo "NOT FOUND: $name"; fi
 done
 echo "damages: $count built, $found found"
 [ $found = $count ]

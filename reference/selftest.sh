@@ -57,15 +57,28 @@ if command -v python3 >/dev/null; then
     done
 fi
 
+# --- The rules, written twice: no difference; each of them is the first one broken somewhere; MRS does not wait for tRC, REFR does.
+for seed in 1 2 3 4 5 6 7 8; do
+    "$program" rules $seed 100000 >$work/counts || wrong "rules, seed $seed: $(cat $work/counts)"
+    awk '{ for (n = 1; n < NF; n++) count[$n] = $(n + 1) + 0 }
+        END { for (n = 1; n <= 16; n++) if (count["R" n] == 0) exit 1
+            exit !(("REFR" in count) && count["REFR"] == 0 && count["MRS"] > 0) }' $work/counts || wrong "rules, seed $seed, comes by too little: $(cat $work/counts)"
+done
+echo "rules: both writings agree about 8 times 100000 commands, and each of R1 to R16 is the first one broken"
+
 # --- Generated scripts: every claim holds, `run` and `check` agree, the same seed gives the same script.
 : >$work/all-lines
+played=
 for seed in 1 2 3 4 5 6 7 8; do
-    "$program" script $seed 100000 >$work/script
-    "$program" script $seed 100000 | cmp -s - $work/script || wrong "seed $seed gives two scripts"
-    "$program" check <$work/script >$work/lines || wrong "check ends with $? on seed $seed"
-    "$program" run <$work/script | cmp -s - $work/lines || wrong "run and check differ on seed $seed"
-    [ "$(wc -l <$work/lines)" = 100000 ] || wrong "seed $seed does not give 100000 lines"
-    cat $work/lines >>$work/all-lines
+    script=$work/$seed.script
+    lines=$work/$seed.lines
+    "$program" script $seed 100000 >$script
+    "$program" script $seed 100000 | cmp -s - $script || wrong "seed $seed gives two scripts"
+    "$program" check <$script >$lines || wrong "check ends with $? on seed $seed"
+    "$program" run <$script | cmp -s - $lines || wrong "run and check differ on seed $seed"
+    [ "$(wc -l <$lines)" = 100000 ] || wrong "seed $seed does not give 100000 lines"
+    cat $lines >>$work/all-lines
+    played="$played $script $lines"
 done
 echo "generated scripts: 8 of 100000 calls, every claim holds"
 
@@ -96,6 +109,14 @@ for what in 'the end of the start' 'a write' 'a read' 'a Must run'; do
     grep -qx "$what" $work/in-rows || wrong "no row of a generated script has $what"
 done
 echo "generated scripts: their rows run past the end of the start and through Must runs"
+
+# --- R16 decides when many of their refreshes are sent: by each bank, by several at once, at each level of the backlog.
+if command -v python3 >/dev/null; then
+    # shellcheck disable=SC2086
+    python3 held-back.py $played >$work/held-back || wrong "held-back.py ends with $?"
+    awk '$1 < 10 { exit 1 }' $work/held-back || wrong "the generated scripts come by too little: $(cat $work/held-back)"
+    echo "generated scripts: of $(sed -n 1p $work/held-back) $(sed -n '2s/ .*//p' $work/held-back) are held back by R16"
+fi
 
 # --- A halfword that the SDRAM does not have on the bus is the script's error.
 sed 's/^slot 4711$/slot 4712/' examples/E5.script >$work/script
@@ -168,5 +189,6 @@ head -c 4096 $work/script >$work/tape
 says 2 usage
 says 2 usage tapes
 says 2 usage random-tape 1
+says 2 usage rules 1
 says 2 usage spoil 1x
 echo "tapes: messages and statuses"

@@ -339,12 +339,23 @@ static uint32_t draw_any_tim(struct author *a)
     }
 }
 
+/*
+ * tRC 13 to 16, tRP at most 2, tRAS, tWR, tRCD and tRRD at most 4: a refresh that is chosen right after an
+ * access which sent ACT has to wait for the row cycle.
+ */
+static uint32_t with_long_row_cycle(uint32_t tim)
+{
+    return (tim & 0xF9333F30) | 0x00000C00;
+}
+
 /* tRFC weighs most in RR. It is kept short in two of three, so that more happens in as many calls. */
 static uint32_t draw_tim(struct author *a)
 {
     uint32_t tim = draw_any_tim(a);
     uint32_t high_bits_of_trfc = 0xE0000000;
 
+    if (once_in(a, 3))
+        tim = with_long_row_cycle(tim);
     return once_in(a, 3) ? tim : tim & ~high_bits_of_trfc;
 }
 
@@ -558,6 +569,7 @@ enum pace {
     NOW_AND_THEN,
     BURST_AT_EXPIRY,
     PAUSE_AT_EXPIRY, /* the queue runs empty, so that a refresh is under way when the interval ends */
+    BEFORE_REFRESH,  /* one to three after each refresh and shortly before an expiry, then none */
     KEEP_FULL,
     PACES
 };
@@ -572,6 +584,7 @@ struct traffic {
     uint32_t slots;         /* or after so many */
     unsigned pause_from;    /* PAUSE_AT_EXPIRY: from this backlog on, */
     unsigned pause;         /* for so many slots before the interval ends; another number each time */
+    unsigned lead;          /* BEFORE_REFRESH: so many slots before it ends; another number each time */
 };
 
 static void fill_edges(struct geometry g, uint32_t *pool)
@@ -616,10 +629,16 @@ static void fill_pool(struct author *a, enum spread spread, uint32_t *pool)
         fill_edges(g, pool);
 }
 
+static bool row_cycle_is_long(const struct configuration *c)
+{
+    return c->tRC > c->tRAS + c->tRP && c->tRC > c->tWR + c->tRP;
+}
+
 static struct traffic draw_traffic(struct author *a)
 {
     static const unsigned shares[] = {0, 3, 50, 97, 100};
     uint32_t RR = a->machine.c.RR;
+    uint32_t way = draw(a, 9);
     struct traffic t;
 
     fill_pool(a, draw(a, SPREADS), t.pool);
@@ -629,7 +648,10 @@ static struct traffic draw_traffic(struct author *a)
     t.slots = draw(a, 3 * RR) + 1;
     t.pause_from = 1 + draw(a, 11);
     t.pause = 0;
-    switch (draw(a, 8)) {
+    t.lead = 0;
+    if (once_in(a, 3) && row_cycle_is_long(&a->machine.c))
+        way = 6;
+    switch (way) {
     case 0: /* climb through the levels, to one of them or into Must and beyond */
         t.pace = KEEP_FULL;
         t.reads = 100;
@@ -660,6 +682,12 @@ static struct traffic draw_traffic(struct author *a)
     case 5:
         t.slots = draw(a, 20) + 1;
         break;
+    case 6: /* a refresh soon after ACTs of different banks */
+        t.pace = BEFORE_REFRESH;
+        t.reads = once_in(a, 2) ? 3 : 50;
+        t.slots = 12 * RR;
+        fill_pool(a, ROWS_OF_EVERY_BANK, t.pool);
+        break;
     default:
         break;
     }
@@ -687,6 +715,10 @@ static unsigned draw_requests(struct author *a, const struct traffic *t)
         return near_expiry && once_in(a, 2) ? 1 + draw(a, QUEUE_ROOM) : 0;
     case PAUSE_AT_EXPIRY:
         return (m->backlog < t->pause_from || m->interval > t->pause) && m->queued < 2;
+    case BEFORE_REFRESH:
+        if (m->queued == 0 && (all_banks_closed(&m->past) || m->interval == t->lead))
+            return 1 + draw(a, 3);
+        return 0;
     case KEEP_FULL:
         return room + once_in(a, 50); /* now and then one too many */
     default:
@@ -870,8 +902,10 @@ static void write_traffic(struct author *a)
 
         if (a->machine.backlog >= t.until_backlog)
             return;
-        if (a->machine.interval == a->machine.c.RR)
+        if (a->machine.interval == a->machine.c.RR) {
             t.pause = draw(a, a->machine.c.RR / 3);
+            t.lead = 1 + draw(a, 20);
+        }
         requests = draw_requests(a, &t);
         while (requests-- > 0)
             write_pool_request(a, &t);

@@ -6,6 +6,7 @@
 
 #include "generate.h"
 #include "play.h"
+#include "rules.h"
 #include "scrap.h"
 #include "show.h"
 
@@ -15,6 +16,7 @@ static const char usage[] =
     "usage: reference run < SCRIPT              plays a script, prints REPLAY.md's lines\n"
     "       reference check < SCRIPT            the same, and holds the run against document 01\n"
     "       reference script SEED CALLS         writes a random script\n"
+    "       reference rules SEED COMMANDS       holds the two writings of the rules against each other\n"
     "       reference tape < SCRIPT > TAPE      plays a script, writes its tape\n"
     "       reference read < TAPE               prints a tape's records\n"
     "       reference damage < TAPE             prints how a tape ends at each cut and each byte changed\n"
@@ -42,6 +44,11 @@ static int do_script(const uint64_t *number)
 {
     generate(number[0], number[1]);
     return WELL;
+}
+
+static int do_rules(const uint64_t *number)
+{
+    return compare_rules(number[0], number[1]) ? WELL : REFUSED;
 }
 
 static int do_tape(const uint64_t *number)
@@ -89,6 +96,7 @@ static const struct task {
     {"run", 0, do_run},
     {"check", 0, do_check},
     {"script", 2, do_script},
+    {"rules", 2, do_rules},
     {"tape", 0, do_tape},
     {"read", 0, do_read},
     {"damage", 0, do_damage},

@@ -1,0 +1,17 @@
+/*
+ * R1 to R16 stand twice in this program, in legality.c and in sdram.c. Here the two are held against each
+ * other, on commands in an order that no machine gives them.
+ */
+#ifndef RULES_H
+#define RULES_H
+
+#include <stdbool.h>
+#include <stdint.h>
+
+/*
+ * Asks both about so many random commands and sends what both take. Prints the first command about which
+ * they differ, and then gives false; otherwise how often each rule was the first to be broken.
+ */
+bool compare_rules(uint64_t seed, uint64_t commands);
+
+#endif
