@@ -110,7 +110,8 @@ for what in 'the end of the start' 'a write' 'a read' 'a Must run'; do
 done
 echo "generated scripts: their rows run past the end of the start and through Must runs"
 
-# --- R16 decides when many of their refreshes are sent: by each bank, by several at once, at each level of the backlog.
+# --- R16 decides when many of their refreshes are sent: by other banks than bank 0 and than the last one used, by several at once, at each
+# level of the backlog.
 if command -v python3 >/dev/null; then
     # shellcheck disable=SC2086
     python3 held-back.py $played >$work/held-back || wrong "held-back.py ends with $?"

@@ -340,12 +340,12 @@ static uint32_t draw_any_tim(struct author *a)
 }
 
 /*
- * tRC 13 to 16, tRP at most 2, tRAS, tWR, tRCD and tRRD at most 4: a refresh that is chosen right after an
- * access which sent ACT has to wait for the row cycle.
+ * tRC 13 to 16, tRP at most 2, tRAS and tRCD at most 4: a refresh that is chosen right after an access which
+ * sent ACT has to wait for the row cycle, unless the access was a write and its tWR lasts longer.
  */
 static uint32_t with_long_row_cycle(uint32_t tim)
 {
-    return (tim & 0xF9333F30) | 0x00000C00;
+    return (tim & 0xF9373F70) | 0x00000C00;
 }
 
 /* tRFC weighs most in RR. It is kept short in two of three, so that more happens in as many calls. */
@@ -354,7 +354,7 @@ static uint32_t draw_tim(struct author *a)
     uint32_t tim = draw_any_tim(a);
     uint32_t high_bits_of_trfc = 0xE0000000;
 
-    if (once_in(a, 3))
+    if (once_in(a, 4))
         tim = with_long_row_cycle(tim);
     return once_in(a, 3) ? tim : tim & ~high_bits_of_trfc;
 }
@@ -638,7 +638,7 @@ static struct traffic draw_traffic(struct author *a)
 {
     static const unsigned shares[] = {0, 3, 50, 97, 100};
     uint32_t RR = a->machine.c.RR;
-    uint32_t way = draw(a, 9);
+    uint32_t way = draw(a, 10);
     struct traffic t;
 
     fill_pool(a, draw(a, SPREADS), t.pool);
@@ -650,7 +650,7 @@ static struct traffic draw_traffic(struct author *a)
     t.pause = 0;
     t.lead = 0;
     if (once_in(a, 3) && row_cycle_is_long(&a->machine.c))
-        way = 6;
+        way = 7;
     switch (way) {
     case 0: /* climb through the levels, to one of them or into Must and beyond */
         t.pace = KEEP_FULL;
@@ -674,15 +674,16 @@ static struct traffic draw_traffic(struct author *a)
         t.slots = draw(a, 14 * RR) + 1;
         break;
     case 4: /* a refresh soon after writes and reads of different banks */
+    case 5:
         t.pace = PAUSE_AT_EXPIRY;
         t.reads = 50;
         t.slots = 12 * RR;
         fill_pool(a, ONE_ROW_OF_EACH_BANK, t.pool);
         break;
-    case 5:
+    case 6:
         t.slots = draw(a, 20) + 1;
         break;
-    case 6: /* a refresh soon after ACTs of different banks */
+    case 7: /* a refresh soon after ACTs of different banks */
         t.pace = BEFORE_REFRESH;
         t.reads = once_in(a, 2) ? 3 : 50;
         t.slots = 12 * RR;
