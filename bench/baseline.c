@@ -97,6 +97,10 @@ static bool legal(const Machine *m, const Command *k)
         for (int o = 0; o < BANKS; o++)
             if (m->bank[o].open && (m->bank[o].act < m->ras || m->bank[o].wrt < m->wr)) return false;
         return true;
+    case REFR:
+        for (int o = 0; o < BANKS; o++)
+            if (m->bank[o].act < m->rc) return false;
+        return all_closed(m) && m->close >= m->rp;
     default: return all_closed(m) && m->close >= m->rp;
     }
 }
@@ -241,7 +245,8 @@ static bool accepted(const Machine *m)
     if (outside(2, 3, m->cl) || outside(1, 32, m->rfc) || outside(1, 8, m->rp) || outside(1, 8, m->rcd)) return false;
     if (outside(1, 8, m->wr) || outside(1, 16, m->ras) || outside(1, 16, m->rc) || outside(1, 8, m->rrd)) return false;
     unsigned most = m->ras > m->wr ? m->ras : m->wr;
-    unsigned access = most + m->rp + m->rc + m->rrd + m->rcd + m->cl + 2u, refresh = most + m->rp + m->rfc;
+    unsigned access = most + m->rp + m->rc + m->rrd + m->rcd + m->cl + 2u, closed = most + m->rp;
+    unsigned refresh = (closed > m->rc ? closed : m->rc) + m->rfc;
     return m->access == access && m->refresh == refresh && m->rr >= access + 6 * refresh && m->rr <= 8191;
 }
 

@@ -93,8 +93,16 @@ static bool may_close_all(const Machine *m)
     return ok;
 }
 
-/* REFR or MRS after DEAC. */
-static bool may_refresh(const Machine *m) { return (m->age[CLOSE_AGE] > m->rp) & (m->age[REFR_AGE] > m->rfc); }
+/* REFR or MRS after DEAC, where no ACT has been sent. */
+static bool may_start(const Machine *m) { return (m->age[CLOSE_AGE] > m->rp) & (m->age[REFR_AGE] > m->rfc); }
+
+/* REFR after DEAC. */
+static bool may_refresh(const Machine *m)
+{
+    bool ok = may_start(m);
+    for (int b = 0; b < BANKS; b++) ok &= m->age[ACT_AGE + b] > m->rc;
+    return ok;
+}
 
 static void close_all(Machine *m, Command *out)
 {
@@ -213,12 +221,12 @@ static void start_slot(Machine *m, Command *out)
     case PAUSE: if (--m->stage_left == 0) m->stage = CLOSE; break;
     case CLOSE: close_all(m, out); m->stage = REFRESHES; m->stage_left = 8; break;
     case REFRESHES:
-        if (!may_refresh(m)) break;
+        if (!may_start(m)) break;
         refresh(m, out);
         if (--m->stage_left == 0) m->stage = MODE;
         break;
     case MODE:
-        if (!may_refresh(m)) break;
+        if (!may_start(m)) break;
         *out = COMMAND(MRS, 0, (uint16_t)(16 * m->cl), 0);
         m->stage = SETTLE;
         break;
@@ -279,7 +287,8 @@ static bool sound(const Machine *m)
     if (outside(2, 3, m->cl) || outside(1, 32, m->rfc) || outside(1, 8, m->rp) || outside(1, 8, m->rcd)) return false;
     if (outside(1, 8, m->wr) || outside(1, 16, m->ras) || outside(1, 16, m->rc) || outside(1, 8, m->rrd)) return false;
     unsigned most = m->ras > m->wr ? m->ras : m->wr;
-    unsigned access = most + m->rp + m->rc + m->rrd + m->rcd + m->cl + 2u, refresh = most + m->rp + m->rfc;
+    unsigned access = most + m->rp + m->rc + m->rrd + m->rcd + m->cl + 2u, closed = most + m->rp;
+    unsigned refresh = (closed > m->rc ? closed : m->rc) + m->rfc;
     if (m->rr < access + 6 * refresh || m->rr > 8191 || outside(1, m->rr, m->interval) || m->backlog > 15 || m->count > PLACES) return false;
     switch (m->stage) {
     case PAUSE: return !outside(1, 8u * m->rr, m->stage_left);

@@ -30,6 +30,8 @@ rows =
     ∷ row 0x4620 4 135 0x42215810 3 0 0
     ∷ row 0x4612 4 185 0x63175a40 0 35 25  -- no two fields alike, and tWR above tRAS
     ∷ row 0x4612 4 184 0x63175a40 3 0 0
+    ∷ row 0x4420 4 147 0x31324b50 0 33 19  -- no two distances alike, and tRC decides F
+    ∷ row 0x4420 4 146 0x31324b50 3 0 0
     -- 1 before 2 and 3, from each word
     ∷ row 0x0408 5 26 0 1 0 0
     ∷ row 0x0400 8 26 0 1 0 0

@@ -143,7 +143,7 @@ true-shaped g s = within-tests (shape-ranges g) (omega (arith, s .columns-least,
 
 record Spanned (c : Config) : Type 0 where
   access : c .access ≡ accessSpan (max (c .ras) (c .wr)) (c .rp) (c .rc) (c .rrd) (c .rcd) (c .latency)
-  refresh : c .refresh ≡ refreshSpan (max (c .ras) (c .wr)) (c .rp) (c .rfc)
+  refresh : c .refresh ≡ refreshSpan (max (c .ras) (c .wr)) (c .rp) (c .rc) (c .rfc)
   enough : c .access + 6 * c .refresh ≤ c .rr
   most : c .rr ≤ 8191
 
@@ -151,7 +151,7 @@ spanned-true : (c : Config) → spannedOf c ≡ true → Spanned c
 unfolding spannedOf
 spanned-true c h =
     let a = eqb (c .access) (accessSpan (max (c .ras) (c .wr)) (c .rp) (c .rc) (c .rrd) (c .rcd) (c .latency)) in
-    let f = eqb (c .refresh) (refreshSpan (max (c .ras) (c .wr)) (c .rp) (c .rfc)) in
+    let f = eqb (c .refresh) (refreshSpan (max (c .ras) (c .wr)) (c .rp) (c .rc) (c .rfc)) in
     let s = tooShort (c .rr) (c .access) (c .refresh) in
     let r = ltb 8191 (c .rr) in
     let x = and-eq-true-iff a (f && noneOf (s ∷ r ∷ [])) .0 h in

@@ -1,5 +1,5 @@
--- What holds of every accepted configuration: the ranges that the fields leave, and document 01's A, F and condition for number 3.
--- As facts, and as the test that a record is put to.
+-- What holds of every accepted configuration: the ranges that the fields leave, document 01's A and condition for number 3, and F as in document 02,
+-- (iv). As facts, and as the test that a record is put to.
 use Prim.Native.Nat.{ℕ, _+_, _*_, _≤_, max}
 use mathlib.Core.Path.{_≡_}
 use mathlib.Core.Bool.{Bool, true, false, cond, _&&_, _||_}
@@ -36,7 +36,7 @@ pub record Accepted (c : Config) : Type 0 where
   pub rrd-most : c .rrd ≤ 8
   pub rr-most : c .rr ≤ 8191
   pub access-span : c .access ≡ accessSpan (max (c .ras) (c .wr)) (c .rp) (c .rc) (c .rrd) (c .rcd) (c .latency)
-  pub refresh-span : c .refresh ≡ refreshSpan (max (c .ras) (c .wr)) (c .rp) (c .rfc)
+  pub refresh-span : c .refresh ≡ refreshSpan (max (c .ras) (c .wr)) (c .rp) (c .rc) (c .rfc)
   pub long-enough : c .access + 6 * c .refresh ≤ c .rr
 
 -- The test.
@@ -69,7 +69,7 @@ distancesOf c =
 unfoldable pub spannedOf : Config → Bool
 spannedOf c =
     eqb (c .access) (accessSpan (max (c .ras) (c .wr)) (c .rp) (c .rc) (c .rrd) (c .rcd) (c .latency))
-    && (eqb (c .refresh) (refreshSpan (max (c .ras) (c .wr)) (c .rp) (c .rfc))
+    && (eqb (c .refresh) (refreshSpan (max (c .ras) (c .wr)) (c .rp) (c .rc) (c .rfc))
     && noneOf (tooShort (c .rr) (c .access) (c .refresh) ∷ ltb 8191 (c .rr) ∷ []))
 
 unfoldable pub acceptedOf : Config → Bool

@@ -25,9 +25,9 @@ slots f = f + 1
 abbrev pub accessSpan : ℕ → ℕ → ℕ → ℕ → ℕ → ℕ → ℕ
 accessSpan m rp rc rrd rcd latency = m + rp + rc + rrd + rcd + latency + 2
 
--- the refresh span, F
-abbrev pub refreshSpan : ℕ → ℕ → ℕ → ℕ
-refreshSpan m rp rfc = m + rp + rfc
+-- the refresh span, F: the larger of M + tRP and tRC, plus tRFC (document 02, (iv))
+abbrev pub refreshSpan : ℕ → ℕ → ℕ → ℕ → ℕ
+refreshSpan m rp rc rfc = max (m + rp) rc + rfc
 
 -- the configuration that the words describe
 unfoldable pub configOf : ℕ → ℕ → ℕ → ℕ → Config
@@ -45,7 +45,7 @@ configOf cfg row ref tim =
       rrd = slots (fieldOf tim T-RRD);
       rr = fieldOf ref RR;
       access = accessSpan m (slots (fieldOf tim T-RP)) (slots (fieldOf tim T-RC)) (slots (fieldOf tim T-RRD)) (slots (fieldOf tim T-RCD)) (fieldOf cfg CL);
-      refresh = refreshSpan m (slots (fieldOf tim T-RP)) (slots (fieldOf tim T-RFC));
+      refresh = refreshSpan m (slots (fieldOf tim T-RP)) (slots (fieldOf tim T-RC)) (slots (fieldOf tim T-RFC));
     }
 
 -- no device

@@ -94,10 +94,15 @@ fn access_span(m: u8, rp: u8, rc: u8, rrd: u8, rcd: u8, latency: u8) -> u32
     m as u32 + rp as u32 + rc as u32 + rrd as u32 + rcd as u32 + latency as u32 + 2
 }
 
-fn refresh_span(m: u8, rp: u8, rfc: u8) -> u32
-    ensures { λ r. ⌜ r ≡ refreshSpan m rp rfc ⌝ }
+// tRFC after the later of two: DEAC, and tRP more; the last ACT, and tRC more.
+fn refresh_span(m: u8, rp: u8, rc: u8, rfc: u8) -> u32
+    ensures { λ r. ⌜ r ≡ refreshSpan m rp rc rfc ⌝ }
 {
-    m as u32 + rp as u32 + rfc as u32
+    let closed = m as u32 + rp as u32;
+    if closed < rc as u32 {
+        return rc as u32 + rfc as u32;
+    }
+    closed + rfc as u32
 }
 
 // The configuration that the words describe, whether or not it is accepted.
@@ -126,7 +131,7 @@ fn described(cfg: u32, row: u32, refr: u32, tim: u32) -> Config
         rrd,
         rr: words::field(refr, 0, 13) as u16,
         access: access_span(m, rp, rc, rrd, rcd, latency) as u8,
-        refresh: refresh_span(m, rp, rfc) as u8,
+        refresh: refresh_span(m, rp, rc, rfc) as u8,
     }
 }
 
@@ -269,7 +274,7 @@ fn spanned(c: Config) -> bool
     if c.access as u32 != access_span(m, c.rp, c.rc, c.rrd, c.rcd, c.latency) {
         return false;
     }
-    if c.refresh as u32 != refresh_span(m, c.rp, c.rfc) {
+    if c.refresh as u32 != refresh_span(m, c.rp, c.rc, c.rfc) {
         return false;
     }
     if too_short(c.rr, c.access, c.refresh) {

@@ -1,4 +1,4 @@
--- Worked examples of R1 to R15 by computation: each rule broken alone, the bank that it is about, and each distance just kept. `ages` holds its
+-- Worked examples of R1 to R16 by computation: each rule broken alone, the bank that it is about, and each distance just kept. `ages` holds its
 -- own reading against the same table.
 use Prim.Native.Nat.{ℕ, suc, _-_}
 use mathlib.Core.Path.{_≡_, refl}
@@ -11,7 +11,7 @@ use Rattle.config.specs.declared.Config.{Config}
 use Rattle.command.specs.declared.Command.{Command}
 use Rattle.command.specs.declared.Command.the-variants.{Nop, Act, Read, Wrt, Pre, Deac, Refr, Mrs}
 use Rattle.device.specs.View.{refreshCycle, marksOf, rowOf}
-use Rattle.device.specs.Rules.{Requirement, R7, R12-open, R13-open, R14, requirements, legalOf}
+use Rattle.device.specs.Rules.{Requirement, R7, R12-open, R13-open, R14, R16, requirements, legalOf}
 use Rattle.device.specs.History.{Log, startLog, byHistory, fed, last, openRow}
 
 -- the first rule that a command breaks, and the bank that it is about; 0 and 0 for a legal one
@@ -184,9 +184,10 @@ distances =
     ∷ breaks 51 Deac 12 0
     ∷ legal 52 Deac
     ∷ breaks 56 Refr 15 0
-    ∷ legal 57 Refr
-    ∷ breaks 67 Refr 2 0
-    ∷ legal 68 Refr
+    ∷ breaks 57 Refr 16 0
+    ∷ legal 58 Refr
+    ∷ breaks 68 Refr 2 0
+    ∷ legal 69 Refr
     ∷ []
 
 -- after a REFR with the longest distance: R1 for each command with a bank, and R2 for every command
@@ -254,6 +255,59 @@ unstarted =
     ∷ legal 32 (act 1 3)
     ∷ []
 
+-- CL 3, tRP 2, tRAS 3, tRC 9, and all other distances 1
+abbrev pub cycling : Config
+cycling =
+    record {
+      geometry = record { columns = 8; banks = 2; rows = 13 };
+      latency = 3;
+      rfc = 1;
+      rp = 2;
+      rcd = 1;
+      wr = 1;
+      ras = 3;
+      rc = 9;
+      rrd = 1;
+      rr = 0;
+      access = 0;
+      refresh = 0;
+    }
+
+-- R16 behind the rules of smaller numbers and bank by bank, with all banks closed by a DEAC; after a PRE; not for an MRS; from the last ACT of a bank
+abbrev pub cycles : List Try
+cycles =
+    legal 1 (Mrs 48)
+    ∷ legal 3 (act 0 0)
+    ∷ legal 4 (act 1 0)
+    ∷ legal 5 (act 2 0)
+    ∷ legal 6 (act 3 0)
+    ∷ legal 9 Deac
+    ∷ breaks 10 Refr 15 0
+    ∷ breaks 11 Refr 16 0
+    ∷ breaks 12 Refr 16 1
+    ∷ breaks 13 Refr 16 2
+    ∷ breaks 14 Refr 16 3
+    ∷ legal 15 Refr  -- R16 kept
+    ∷ legal 16 (act 2 5)
+    ∷ breaks 18 Refr 14 2
+    ∷ legal 19 (pre 2)
+    ∷ breaks 20 (Mrs 48) 15 0
+    ∷ breaks 21 Refr 16 2
+    ∷ legal 22 (Mrs 48)  -- R16 is not about an MRS
+    ∷ breaks 23 Refr 2 0  -- R2 before R16
+    ∷ breaks 24 Refr 16 2
+    ∷ legal 25 Refr  -- R16 kept, after a PRE
+    ∷ legal 26 (act 1 1)
+    ∷ legal 27 (act 3 1)
+    ∷ legal 29 (pre 1)
+    ∷ breaks 30 Refr 14 3  -- R14 before R15 and R16
+    ∷ legal 31 (pre 3)
+    ∷ legal 35 (act 1 2)
+    ∷ legal 38 (pre 1)
+    ∷ breaks 43 Refr 16 1  -- after its second ACT
+    ∷ legal 44 Refr
+    ∷ []
+
 -- a device and what is tried on it
 pub record Run : Type 0 where
   pub config : Config
@@ -262,13 +316,14 @@ pub record Run : Type 0 where
 abbrev run : Config → List Try → Run
 run c ts = record { config = c; tries = ts }
 
--- the fifth and sixth have a tRFC below tRP, and the last one bank
+-- the sixth and seventh are about a tRFC below tRP, and the last has one bank
 unfoldable pub runs : List Run
 runs =
     run (device 2 9) tries
     ∷ run unlike distances
     ∷ run (device 2 32) refreshing
     ∷ run recovering unstarted
+    ∷ run cycling cycles
     ∷ run (device 2 1) (legal 1 Refr ∷ legal 2 Refr ∷ legal 3 (Mrs 48) ∷ [])
     ∷ run (device 2 1) (legal 1 (Mrs 48) ∷ legal 3 Refr ∷ legal 4 (act 0 0) ∷ [])
     ∷ run (device 0 9) (legal 1 (Mrs 48) ∷ breaks 3 (act 1 0) 1 0 ∷ legal 4 (act 0 0) ∷ [])
@@ -282,7 +337,7 @@ brokenBy c l [] = []
 brokenBy c l (k ∷ ks) = broken (requirements c (byHistory c l) k) ∷ brokenBy c (fed c l k) ks
 
 broken-by-history : map (λ (r : Run). brokenBy (r .config) startLog (commands 1 (r .tries))) runs ≡ map wantedOf runs
-unfolding runs tries device commands wanted wantedOf brokenBy fed startLog last openRow legalOf requirements R7 R12-open R13-open R14 marksOf rowOf
+unfolding runs tries device commands wanted wantedOf brokenBy fed startLog last openRow legalOf requirements R7 R12-open R13-open R14 R16 marksOf rowOf
 broken-by-history = refl
 
 -- the rows that are open after the first n slots of the first run
@@ -310,10 +365,10 @@ rowsOf =
     ∷ []
 
 rows-by-history : map (λ n. four (openRow (logAfter startLog (take n (commands 1 tries)) .past))) instants ≡ rowsOf
-unfolding instants rowsOf logAfter tries device commands fed startLog last openRow legalOf requirements R7 R12-open R13-open R14 marksOf rowOf
+unfolding instants rowsOf logAfter tries device commands fed startLog last openRow legalOf requirements R7 R12-open R13-open R14 R16 marksOf rowOf
 rows-by-history = refl
 
 -- the log has the slots, counted from 1
 logged : last refreshCycle (logAfter startLog (commands 1 tries) .past) ≡ some 8
-unfolding logAfter tries device commands fed startLog last openRow legalOf requirements R7 R12-open R13-open R14 marksOf rowOf
+unfolding logAfter tries device commands fed startLog last openRow legalOf requirements R7 R12-open R13-open R14 R16 marksOf rowOf
 logged = refl

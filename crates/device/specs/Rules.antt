@@ -1,5 +1,5 @@
--- R1 to R15 as a table (document 01, "Commands and their distances"), over whatever is known of the past: what a command requires, by
--- rising number of the rule and then of the bank.
+-- R1 to R16 as a table (document 01, "Commands and their distances"; R16: document 02, (iv)), over whatever is known of the past: what a command
+-- requires, by rising number of the rule and then of the bank.
 use Prim.Native.Nat.{ℕ, _*_, _^_}
 use mathlib.Core.Bool.{Bool, true, cond, _&&_, _||_, not}
 use mathlib.Core.List.{List, [], _∷_, _++_, map}
@@ -98,6 +98,10 @@ R14 v = forBanks (λ b. require 14 b (not (opened v b)))
 abbrev pub R15 : View → Requirement
 R15 v = require 15 0 (v .kept anyPrecharge)
 
+-- for REFR and not for MRS: tRC after every bank's last ACT, whether the bank is open or closed; it names the bank found
+unfoldable pub R16 : View → List Requirement
+R16 v = forBanks (λ b. require 16 b (v .kept (rowCycle b)))
+
 -- the table
 unfoldable pub requirements : Config → View → Command → List Requirement
 requirements c v Nop = []
@@ -107,7 +111,7 @@ requirements c v (Read b k) = R1-bank c (b .0) ∷ R1-column c (k .0) ∷ R2 v +
 requirements c v (Wrt b k h) = R1-bank c (b .0) ∷ R1-column c (k .0) ∷ R2 v ++ R8 v (b .0) ∷ R9 v (b .0) ∷ R10 v ∷ []
 requirements c v (Pre b) = R1-bank c (b .0) ∷ R2 v ++ R11 v (b .0) ∷ R12 v (b .0) ∷ R13 v (b .0) ∷ []
 requirements c v Deac = R2 v ++ R12-open v ++ R13-open v
-requirements c v Refr = R2 v ++ R14 v ++ R15 v ∷ []
+requirements c v Refr = R2 v ++ R14 v ++ R15 v ∷ R16 v
 requirements c v (Mrs w) = R1-word c w ∷ R2 v ++ R14 v ++ R15 v ∷ []
 
 abbrev pub allHold : List Requirement → Bool

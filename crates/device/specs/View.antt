@@ -8,13 +8,13 @@ use Rattle.config.specs.declared.Config.{Config}
 use Rattle.command.specs.declared.Command.{Command}
 use Rattle.command.specs.declared.Command.the-variants.{Nop, Act, Read, Wrt, Pre, Deac, Refr, Mrs}
 
--- The distances by name, by rising rule. One of a bank has the bank's number.
+-- The distances by name, by the first rule that has them. One of a bank has the bank's number.
 pub data Distance : Type 0 where
   -- R2: tRFC after REFR, and 2 slots after MRS
   refreshCycle modeRegister : Distance
   -- R5: tRP after the bank's PRE or any DEAC
   rowPrecharge : ℕ → Distance
-  -- R6: tRC; R7: tRRD, for the other banks; R9: tRCD; R12: tRAS, each after the bank's ACT
+  -- R6 and R16: tRC; R7: tRRD, for the other banks; R9: tRCD; R12: tRAS, each after the bank's ACT
   rowCycle rowToRow rowToColumn rowActive : ℕ → Distance
   -- R10: CL + 2 after any READ
   readToWrite : Distance

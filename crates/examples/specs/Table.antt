@@ -1,6 +1,6 @@
 -- Document 01's marked examples, and some of our own where the paper's figures leave two things alike: what is asked, what the definitions
 -- answer, and what is said.
-use Prim.Native.Nat.{ℕ}
+use Prim.Native.Nat.{ℕ, _-_}
 use mathlib.Core.Bool.{false}
 use mathlib.Core.List.{List, [], _∷_, map}
 use lib.ListN.{drop, replicate}
@@ -29,6 +29,8 @@ pub data Question : Type 0 where
   cell : (cfg row address : ℕ) → Question
   -- with these requests queued before slot 1, what happens in the first n slots, from slot `from` on, if the bus carries 7?
   bus : (cfg row ref tim : ℕ) (calls : List Call) (n from : ℕ) → Question
+  -- with these requests queued before slot 1 and those more before slot `from`, what happens in so many slots from there on, if the bus carries 7?
+  later : (cfg row ref tim : ℕ) (calls : List Call) (from : ℕ) (more : List Call) (count : ℕ) → Question
   -- in which order are these requests reported within n slots?
   order : (cfg row ref tim : ℕ) (calls : List Call) (n : ℕ) → Question
   -- with these requests queued before slot 1, what is the tape of the first n slots without the first `gone` of them, if the bus carries 7?
@@ -57,6 +59,8 @@ answer (words cfg row ref tim) = ofSetting (settingOf cfg row ref tim)
 answer (distances cfg row ref tim) = numbers (distancesOf (settingOf cfg row ref tim .config))
 answer (cell cfg row a) = ofCell (toCellOf cfg row a)
 answer (bus cfg row ref tim calls n from) = events (watched n 1 from false 7 (requested (configureOf cfg row ref tim .machine) calls))
+answer (later cfg row ref tim calls from more count) =
+    events (watched count from from false 7 (requested (seriesOf (requested (configureOf cfg row ref tim .machine) calls) (replicate (from - 1) 7) .machine) more))
 answer (order cfg row ref tim calls n) = numbers (numbersOf (watched n 1 1 false 7 (requested (configureOf cfg row ref tim .machine) calls)))
 answer (tape cfg row ref tim calls n gone) = numbers (tapeOf (map commandIn (drop gone (seriesOf (requested (configureOf cfg row ref tim .machine) calls) (replicate n 7) .commands))))
 
@@ -97,6 +101,10 @@ table =
     ∷ row (words 0x4612 4 185 0x63175a40) (spans 0 35 25)
     ∷ row (words 0x4612 4 184 0x63175a40) (spans 3 0 0)
     ∷ row (distances 0x4612 4 185 0x63175a40) (numbers (13 ∷ 4 ∷ 2 ∷ 8 ∷ 6 ∷ 11 ∷ 5 ∷ []))
+    -- not the paper's: tRC above M + tRP decides F (document 02, (iv)); the least RR is 147
+    ∷ row (words 0x4420 4 147 0x31324b50) (spans 0 33 19)
+    ∷ row (words 0x4420 4 146 0x31324b50) (spans 3 0 0)
+    ∷ row (distances 0x4420 4 147 0x31324b50) (numbers (7 ∷ 2 ∷ 4 ∷ 3 ∷ 5 ∷ 12 ∷ 6 ∷ []))
     -- E5
     ∷ row (bus 0x4400 0 27 0 (request Kind.Write 0 9 ∷ request Kind.Read 0 0 ∷ []) 234 1)
     (events
@@ -133,6 +141,11 @@ table =
     ∷ sent 1598 (PRE 0) ∷ sent 1602 (ACT 0 0) ∷ sent 1604 (WRT 0 0 1) ∷ told 1604 (writeDone 1) ∷ free 1605
     ∷ sent 1612 (PRE 0) ∷ sent 1616 (ACT 0 1) ∷ sent 1618 (WRT 0 0 2) ∷ told 1618 (writeDone 2) ∷ free 1619
     ∷ sent 1621 (ACT 1 0) ∷ sent 1623 (WRT 1 0 3) ∷ told 1623 (writeDone 3) ∷ free 1624 ∷ []))
+    -- not the paper's: R16, on the machine in which tRC decides F; its first service slot is 1237. The write to 0 leaves bank 0 open, so nothing is refreshed before
+    -- the fourth expiry, in slot 1824. The refresh behind the write to bank 1 has its DEAC tWR after the WRT, and its REFR tRC after the ACT; the next one tRP after its DEAC
+    ∷ row (later 0x4420 4 147 0x31324b50 (request Kind.Write 0 1 ∷ []) 1823 (request Kind.Write 0x200 2 ∷ []) 22)
+    (events
+    (sent 1823 (ACT 1 0) ∷ sent 1827 (WRT 1 0 2) ∷ told 1827 (writeDone 2) ∷ free 1828 ∷ sent 1830 Deac ∷ sent 1835 Refr ∷ free 1842 ∷ sent 1842 Deac ∷ sent 1844 Refr ∷ []))
     -- E10, on E4's machine (document 01 names none): read 0x800, write 0, read 0
     ∷ row (order 0x4620 4 136 0x42215810 (request Kind.Write 0 1 ∷ request Kind.Read 0 0 ∷ request Kind.Read 0x800 0 ∷ []) 1226) (numbers (3 ∷ 1 ∷ 2 ∷ []))
     -- E11, on E4's machine too: the read waits

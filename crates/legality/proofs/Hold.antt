@@ -12,12 +12,12 @@ use Rattle.address.specs.declared.Column.{Column}
 use Rattle.config.specs.declared.Config.{Config}
 use Rattle.command.specs.declared.Command.the-variants.{Act, Read, Wrt, Pre, Deac, Refr, Mrs}
 use Rattle.device.specs.View.{isSome, allClosed}
-use Rattle.device.specs.Rules.{R7, R10, R12-open, R13-open, R14, allHold, requirements, legalOf}
-use Rattle.device.proofs.Alike.{hold-append}
+use Rattle.device.specs.Rules.{R7, R10, R12-open, R13-open, R14, R16, allHold, requirements, legalOf}
+use Rattle.device.proofs.Alike.{hold-append, prechargedRules, refr-parts, mrs-parts}
 use Rattle.ages.specs.declared.Past.{Past}
 use Rattle.ages.proofs.Record.{open-here}
 use Rattle.ages.specs.Ages.{rowAt, byAges}
-use Rattle.legality.specs.Verdict.{settledOf}
+use Rattle.legality.specs.Verdict.{settledOf, prechargedOf}
 
 and-true : (t : Bool) → (t && true) ≡ t
 and-true true = refl
@@ -98,11 +98,12 @@ module _ (c : Config) (p : Past) where
   unfolding legalOf requirements
   deac-is = rw (settled-first, hold-append (R12-open (byAges c p)))
 
-  pub refr-is : legalOf c (byAges c p) Refr ≡ (settledOf c (p .ages) && (allClosed (rowAt p) && (leb (c .rp) (getD (p .ages) 10 0) && true)))
-  unfolding legalOf requirements
-  refr-is = rw (settled-first, hold-append (R14 (byAges c p)), R14-is)
+  precharged-is : allHold (prechargedRules (byAges c p)) ≡ prechargedOf c (p .ages) (p .opened) (p .rows)
+  unfolding prechargedOf
+  precharged-is = rw (settled-first, hold-append (R14 (byAges c p)), R14-is, and-true (leb (c .rp) (getD (p .ages) 10 0)))
 
-  -- an MRS's rules are R1 and a REFR's
-  pub mrs-is : (w : ℕ) → legalOf c (byAges c p) (Mrs w) ≡ (eqb w (16 * c .latency) && legalOf c (byAges c p) Refr)
-  unfolding legalOf requirements
-  mrs-is w = refl
+  pub refr-is : legalOf c (byAges c p) Refr ≡ (prechargedOf c (p .ages) (p .opened) (p .rows) && allHold (R16 (byAges c p)))
+  refr-is = rw (refr-parts c (byAges c p), precharged-is)
+
+  pub mrs-is : (w : ℕ) → legalOf c (byAges c p) (Mrs w) ≡ (eqb w (16 * c .latency) && prechargedOf c (p .ages) (p .opened) (p .rows))
+  mrs-is w = rw (mrs-parts c (byAges c p) w, precharged-is)

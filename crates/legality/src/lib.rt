@@ -1,4 +1,4 @@
-// Owns the test whether a command is legal in the next slot, by the ages (document 01, R1 to R15; `device` has the rules). No rule asks which rows are
+// Owns the test whether a command is legal in the next slot, by the ages (R1 to R16; `device` has the rules). No rule asks which rows are
 // open, and only ACT's ask whether the mode is set: the contracts say so for every one.
 use address::Bank;
 use address::Column;
@@ -11,9 +11,9 @@ ghost use mathlib.Core.List.{List};
 ghost use Prim.Native.Nat.{ℕ, _+_, _≤_, _^_};
 ghost use lib.Dec.{leb, ltb, eqb};
 ghost use Rattle.config.specs.Accepted.{Shaped};
-ghost use Rattle.device.specs.Rules.{allHold, R7, R12-open, R13-open, legalOf};
+ghost use Rattle.device.specs.Rules.{allHold, R7, R12-open, R13-open, R16, legalOf};
 ghost use Rattle.ages.specs.Ages.{pastOf, byAges};
-ghost use Rattle.legality.specs.Verdict.{Verdict, settledOf};
+ghost use Rattle.legality.specs.Verdict.{Verdict, settledOf, prechargedOf};
 
 // Is a number below 2 to the power of a width?
 fn inside(n: u16, width: u8) -> bool
@@ -108,6 +108,41 @@ fn all_written(c: Config, ages: &[u8; 16], opened: &[bool; 4]) -> bool
         return false;
     }
     if !free(opened[3], ages[15], c.wr) {
+        return false;
+    }
+    true
+}
+
+// R2, R14 and R15, which REFR and MRS have in common: all banks are closed, and long enough.
+fn all_precharged(c: Config, ages: &[u8; 16], opened: &[bool; 4]) -> bool
+    ensures { λ r. ⌜ ((rows : List ℕ) → r ≡ prechargedOf c (now (ages .entry)) (now (opened .entry)) rows) ⌝ }
+{
+    if !settled(c, ages) {
+        return false;
+    }
+    if !ages::all_closed(opened) {
+        return false;
+    }
+    if ages[10] < c.rp {
+        return false;
+    }
+    true
+}
+
+// R16: tRC after every bank's ACT.
+fn all_cycled(c: Config, ages: &[u8; 16]) -> bool
+    ensures { λ r. ⌜ ((opened : List Bool) (rows : List ℕ) (programmed : Bool) → r ≡ allHold (R16 (byAges c (pastOf (now (ages .entry)) opened rows programmed)))) ⌝ }
+{
+    if ages[0] < c.rc {
+        return false;
+    }
+    if ages[1] < c.rc {
+        return false;
+    }
+    if ages[2] < c.rc {
+        return false;
+    }
+    if ages[3] < c.rc {
         return false;
     }
     true
@@ -235,28 +270,22 @@ pub fn deac_legal(c: Config, ages: &[u8; 16], opened: &[bool; 4]) -> bool
     all_written(c, ages, opened)
 }
 
-// REFR: R2, R14, R15.
+// REFR: R2, R14, R15, R16.
 pub fn refr_legal(c: Config, ages: &[u8; 16], opened: &[bool; 4]) -> bool
     ensures { λ r. ⌜ Verdict c (now (ages .entry)) (now (opened .entry)) Command.Refr r ⌝ }
 {
-    if !settled(c, ages) {
+    if !all_precharged(c, ages, opened) {
         return false;
     }
-    if !ages::all_closed(opened) {
-        return false;
-    }
-    if ages[10] < c.rp {
-        return false;
-    }
-    true
+    all_cycled(c, ages)
 }
 
-// MRS: R1 and REFR's rules.
+// MRS: R1, R2, R14, R15.
 pub fn mrs_legal(c: Config, ages: &[u8; 16], opened: &[bool; 4], word: u16) -> bool
     ensures { λ r. ⌜ Verdict c (now (ages .entry)) (now (opened .entry)) (Command.Mrs word) r ⌝ }
 {
     if word != 16 * (c.latency as u16) {
         return false;
     }
-    refr_legal(c, ages, opened)
+    all_precharged(c, ages, opened)
 }

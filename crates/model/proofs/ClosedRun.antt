@@ -15,7 +15,7 @@ use Rattle.config.specs.Setting.{offeredOf, geometryOf, configOf, checkedOf, se
 use Rattle.address.specs.Map.{capacityOf, addressNumberOf, cellOf, holdsOf, cellAt}
 use Rattle.device.specs.View.{allClosed, marksOf, rowOf}
 use Rattle.device.proofs.Tests.{both}
-use Rattle.device.specs.Rules.{R7, R12-open, R13-open, R14, requirements, legalOf, carriedOf}
+use Rattle.device.specs.Rules.{R7, R12-open, R13-open, R14, R16, requirements, legalOf, carriedOf}
 use Rattle.device.specs.History.{last, openRow, startLog, fed}
 use Rattle.ages.specs.Ages.{freshOf, openIn, rowIn, openRows, agedOf, agesAfter, sentOf}
 use Rattle.queue.specs.declared.Kind.{Kind}
@@ -134,7 +134,7 @@ pub record ClosedRun : Type 0 where
   pub refreshed : refreshes (machine .config) (world (opening ++ (busy ++ rest))) ≡ 15
 
 pub closed-run : ClosedRun
-unfolding firstService times machine world opening busy rest settingOf reservedAll reservedMap offeredOf checkedOf configOf geometryOf addressNumberOf capacityOf cellOf holdsOf allClosed marksOf rowOf R7 R12-open R13-open R14 requirements legalOf last openRow startLog fed freshOf openIn rowIn openRows agedOf agesAfter sentOf carriedOf emptyOf acceptOf storedOf removeOf shiftedOf getOf requestAt requestIn kindIn blockedOf readyOf oldestOf startOf tickOf refreshedOf soundCounters levelOf soundAction plan.quietly plan.outcomeOf plan.tries plan.rest plan.afterPause plan.afterInitRefresh plan.readPlan plan.writePlan plan.transferPlan plan.accessPlan plan.takenPlan plan.latencyPlan plan.cycleLeft plan.refreshPlan plan.planOf plan.queueAfter plan.countersAfter rulesOf choiceOf currentOf tickedOf turnOf blankOf machineOf stepOf stateBy fitBy soundBy configAccepted shapedOf distancesOf spannedOf configuredBy configureOf recordNumberBy roomNumberOf requestNumberBy queuedRequest enqueuedOf requestOf slotOf stored startSdram cellsAfter drivenAfter takes sdramAfter startFlat taken flatAfter startWorld busOf slotIn afterSlot afterRequest after played
+unfolding firstService times machine world opening busy rest settingOf reservedAll reservedMap offeredOf checkedOf configOf geometryOf addressNumberOf capacityOf cellOf holdsOf allClosed marksOf rowOf R7 R12-open R13-open R14 R16 requirements legalOf last openRow startLog fed freshOf openIn rowIn openRows agedOf agesAfter sentOf carriedOf emptyOf acceptOf storedOf removeOf shiftedOf getOf requestAt requestIn kindIn blockedOf readyOf oldestOf startOf tickOf refreshedOf soundCounters levelOf soundAction plan.quietly plan.outcomeOf plan.tries plan.rest plan.afterPause plan.afterInitRefresh plan.readPlan plan.writePlan plan.transferPlan plan.accessPlan plan.takenPlan plan.latencyPlan plan.cycleLeft plan.refreshPlan plan.planOf plan.queueAfter plan.countersAfter rulesOf choiceOf currentOf tickedOf turnOf blankOf machineOf stepOf stateBy fitBy soundBy configAccepted shapedOf distancesOf spannedOf configuredBy configureOf recordNumberBy roomNumberOf requestNumberBy queuedRequest enqueuedOf requestOf slotOf stored startSdram cellsAfter drivenAfter takes sdramAfter startFlat taken flatAfter startWorld busOf slotIn afterSlot afterRequest after played
 closed-run =
     record {
       odd = refl;
@@ -174,7 +174,7 @@ pub record ClosedClaim : Type 0 where
   pub written-at-once : at-once .sdram .cells (cellAt 0 0 1) ≡ 65535
 
 pub closed-claim : ClosedClaim
-unfolding at-once told-words wordOf reportWord commandWord seriesOf batchOf manySlotsOf afterSlots busAlong handedOf batchIn afterBatch firstService expiriesOf times machine world opening brim chain settingOf reservedAll reservedMap offeredOf checkedOf configOf geometryOf addressNumberOf capacityOf cellOf holdsOf allClosed marksOf rowOf R7 R12-open R13-open R14 requirements legalOf last openRow startLog fed freshOf openIn rowIn openRows agedOf agesAfter sentOf carriedOf emptyOf acceptOf storedOf removeOf shiftedOf getOf requestAt requestIn kindIn blockedOf readyOf oldestOf startOf tickOf refreshedOf soundCounters levelOf soundAction plan.quietly plan.outcomeOf plan.tries plan.rest plan.afterPause plan.afterInitRefresh plan.readPlan plan.writePlan plan.transferPlan plan.accessPlan plan.takenPlan plan.latencyPlan plan.cycleLeft plan.refreshPlan plan.planOf plan.queueAfter plan.countersAfter rulesOf choiceOf currentOf tickedOf turnOf blankOf machineOf stepOf stateBy fitBy soundBy configAccepted shapedOf distancesOf spannedOf configuredBy configureOf recordNumberBy roomNumberOf requestNumberBy queuedRequest enqueuedOf requestOf slotOf stored startSdram cellsAfter drivenAfter takes sdramAfter startFlat taken flatAfter startWorld busOf slotIn afterSlot afterRequest after played
+unfolding at-once told-words wordOf reportWord commandWord seriesOf batchOf manySlotsOf afterSlots busAlong handedOf batchIn afterBatch firstService expiriesOf times machine world opening brim chain settingOf reservedAll reservedMap offeredOf checkedOf configOf geometryOf addressNumberOf capacityOf cellOf holdsOf allClosed marksOf rowOf R7 R12-open R13-open R14 R16 requirements legalOf last openRow startLog fed freshOf openIn rowIn openRows agedOf agesAfter sentOf carriedOf emptyOf acceptOf storedOf removeOf shiftedOf getOf requestAt requestIn kindIn blockedOf readyOf oldestOf startOf tickOf refreshedOf soundCounters levelOf soundAction plan.quietly plan.outcomeOf plan.tries plan.rest plan.afterPause plan.afterInitRefresh plan.readPlan plan.writePlan plan.transferPlan plan.accessPlan plan.takenPlan plan.latencyPlan plan.cycleLeft plan.refreshPlan plan.planOf plan.queueAfter plan.countersAfter rulesOf choiceOf currentOf tickedOf turnOf blankOf machineOf stepOf stateBy fitBy soundBy configAccepted shapedOf distancesOf spannedOf configuredBy configureOf recordNumberBy roomNumberOf requestNumberBy queuedRequest enqueuedOf requestOf slotOf stored startSdram cellsAfter drivenAfter takes sdramAfter startFlat taken flatAfter startWorld busOf slotIn afterSlot afterRequest after played
 closed-claim =
     record {
       twelve = refl;

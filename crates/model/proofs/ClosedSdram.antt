@@ -1,9 +1,9 @@
 -- The plain SDRAM rejects a command that is not legal and keeps everything, computed on E4's device with cells that all hold 5: a command of each
--- kind in the slot after an ACT, then a READ and a WRT as soon as they are legal.
-use Prim.Native.Nat.{suc}
+-- kind in the slot after an ACT, then a READ and a WRT as soon as they are legal. And R16, on a device on which tRC is above M + tRP.
+use Prim.Native.Nat.{ℕ, suc}
 use mathlib.Core.Path.{_≡_, refl}
 use mathlib.Core.Bool.{true, false}
-use mathlib.Core.List.{List, [], _∷_, map}
+use mathlib.Core.List.{List, [], _∷_, _++_, map}
 use lib.ListN.{replicate}
 use Rattle.config.specs.declared.Config.{Config}
 use Rattle.config.specs.Setting.{geometryOf, configOf}
@@ -11,7 +11,7 @@ use Rattle.address.specs.Map.{cellAt}
 use Rattle.command.specs.declared.Command.{Command}
 use Rattle.command.specs.declared.Command.the-variants.{Nop, Act, Read, Wrt, Pre, Deac, Refr, Mrs}
 use Rattle.device.specs.View.{marksOf, rowOf}
-use Rattle.device.specs.Rules.{R7, R12-open, R13-open, R14, requirements, legalOf}
+use Rattle.device.specs.Rules.{R7, R12-open, R13-open, R14, R16, requirements, legalOf}
 use Rattle.device.specs.History.{last, openRow, startLog, fed}
 use Rattle.model.specs.Sdram.{Sdram, stored, startSdram, cellsAfter, drivenAfter, takes, sdramAfter}
 
@@ -19,13 +19,13 @@ use Rattle.model.specs.Sdram.{Sdram, stored, startSdram, cellsAfter, dri
 config : Config
 config = configOf 0x4620 4 136 0x42215810
 
-sdram : Sdram → List Command → Sdram
-sdram d [] = d
-sdram d (k ∷ ks) = sdram (sdramAfter config d k) ks
+sdram : Config → Sdram → List Command → Sdram
+sdram c d [] = d
+sdram c d (k ∷ ks) = sdram c (sdramAfter c d k) ks
 
 -- row 2 of bank 1 was opened in slot 3
 opened : Sdram
-opened = sdram (startSdram (λ x. 5)) (Mrs 48 ∷ Nop ∷ Act (record { 0 = 1 }) (record { 0 = 2 }) ∷ [])
+opened = sdram config (startSdram (λ x. 5)) (Mrs 48 ∷ Nop ∷ Act (record { 0 = 1 }) (record { 0 = 2 }) ∷ [])
 
 -- column 4 of it
 fetch : Command
@@ -43,7 +43,15 @@ kept d = record { log = record { now = suc (d .log .now); past = d .log .past };
 
 -- in slot 6, after those that were rejected
 ready : Sdram
-ready = sdram opened (fetch ∷ store ∷ [])
+ready = sdram config opened (fetch ∷ store ∷ [])
+
+-- tRP 2, tRAS 5, tRC 12
+cycling : Config
+cycling = configOf 0x4420 4 147 0x31324b50
+
+-- bank 1 was opened in slot 3 and closed in slot 8; so many slots after slot 10, in which tRP is kept
+closed : ℕ → Sdram
+closed n = sdram cycling (startSdram (λ x. 5)) (Mrs 32 ∷ Nop ∷ Act (record { 0 = 1 }) (record { 0 = 2 }) ∷ replicate 4 Nop ++ Pre (record { 0 = 1 }) ∷ Nop ∷ replicate n Nop)
 
 record Rejects : Type 0 where
   rejected : map (takes config opened) illegal ≡ replicate 7 false
@@ -55,7 +63,11 @@ record Rejects : Type 0 where
   written :
       map (sdramAfter config ready store .cells) (cellAt 1 2 4 ∷ cellAt 1 2 0 ∷ cellAt 1 2 5 ∷ cellAt 1 0 4 ∷ cellAt 0 2 4 ∷ [])
       ≡ 9 ∷ 5 ∷ 5 ∷ 5 ∷ 5 ∷ []
+  -- R16: no REFR before slot 15, tRC after the ACT; an MRS does not wait for it
+  cycled :
+      takes cycling (closed 0) Refr ∷ takes cycling (closed 4) Refr ∷ takes cycling (closed 5) Refr ∷ takes cycling (closed 0) (Mrs 32) ∷ []
+      ≡ false ∷ false ∷ true ∷ true ∷ []
 
 rejects : Rejects
-unfolding config sdram opened fetch store illegal kept ready configOf geometryOf marksOf rowOf R7 R12-open R13-open R14 requirements legalOf last openRow startLog fed stored startSdram cellsAfter drivenAfter takes sdramAfter
-rejects = record { rejected = refl; keeps = refl; untouched = refl; taken = refl; driven = refl; written = refl }
+unfolding config cycling closed sdram opened fetch store illegal kept ready configOf geometryOf marksOf rowOf R7 R12-open R13-open R14 R16 requirements legalOf last openRow startLog fed stored startSdram cellsAfter drivenAfter takes sdramAfter
+rejects = record { rejected = refl; keeps = refl; untouched = refl; taken = refl; driven = refl; written = refl; cycled = refl }

@@ -1,6 +1,6 @@
 -- The third condition, as one claim about a list of calls: everything that the tender and document 01 say of it, by name.
 -- The machine moves by the very definitions that the calls' contracts cite; all else here is measured from outside, off the SDRAM's own
--- history, the flat memory and the reports. What pins the rules themselves is document 01 beside their definitions, E1 to E12 and the slips.
+-- history, the flat memory and the reports. What pins the rules themselves: the papers beside their definitions, the worked examples and the slips.
 use Prim.Native.Nat.{ℕ, _+_, _-_, _*_, _%_, _^_, _≤_, _<_}
 use mathlib.Core.Path.{_≡_}
 use mathlib.Core.Bool.{Bool, true, cond, _&&_}

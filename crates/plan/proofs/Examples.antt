@@ -13,7 +13,7 @@ use Rattle.config.specs.Setting.{geometryOf, configOf}
 use Rattle.command.specs.declared.Command.{Command}
 use Rattle.command.specs.declared.Command.the-variants.{Nop, Act, Wrt, Pre, Deac, Refr, Mrs}
 use Rattle.device.specs.View.{marksOf, rowOf, allClosed}
-use Rattle.device.specs.Rules.{R7, R12-open, R13-open, R14, requirements, legalOf, carriedOf}
+use Rattle.device.specs.Rules.{R7, R12-open, R13-open, R14, R16, requirements, legalOf, carriedOf}
 use Rattle.device.specs.History.{Log, last, openRow, startLog, byHistory, fed}
 use Rattle.queue.specs.declared.Kind.{Kind}
 use Rattle.queue.specs.declared.Found.{Found}
@@ -201,6 +201,10 @@ wide = configOf 0x4620 4 136 0x42215810
 abbrev unlike : Config
 unlike = configOf 0x4612 4 185 0x63175a40
 
+-- tRC above M + tRP: tRFC 7, tRP 2, tRCD 4, tWR 3, tRAS 5, tRC 12, tRRD 6, and CL 2
+abbrev cycling : Config
+cycling = configOf 0x4420 4 147 0x31324b50
+
 -- a slot of an action: its command and report, then the action, the backlog and the numbers of the queued requests
 record Line : Type 0 where
   command : Command
@@ -341,6 +345,14 @@ runs =
     ++ line Refr nothing (RefreshCycle 12) 4 []
     ∷ map (λ (a : Action). line Nop nothing a 4 [])
     (map RefreshCycle (11 ∷ 10 ∷ 9 ∷ 8 ∷ 7 ∷ 6 ∷ 5 ∷ 4 ∷ 3 ∷ 2 ∷ 1 ∷ []) ++ Idle ∷ []))
+    -- where tRC decides F: its DEAC waits for tWR, its REFR for tRC, and not only for tRP
+    ∷ run cycling (ready 32 ++ act 1 0 ∷ Nop ∷ Nop ∷ Nop ∷ wrt 1 0 ∷ []) [] PrechargeAll
+    (replicate 2 (still Nop PrechargeAll [])
+    ++ still Deac Refresh []
+    ∷ replicate 4 (still Nop Refresh [])
+    ++ line Refr nothing (RefreshCycle 6) 4 []
+    ∷ map (λ (a : Action). line Nop nothing a 4 [])
+    (map RefreshCycle (5 ∷ 4 ∷ 3 ∷ 2 ∷ 1 ∷ []) ++ Idle ∷ []))
     ∷ []
 
 -- so many slots from an action on; the past is the device's log
@@ -365,7 +377,7 @@ start x =
     (queue emptyOf (x .requests)) 100
 
 runs-played : map start runs ≡ map (λ (x : Run). x .lines) runs
-unfolding configOf geometryOf cellOf addressOf asked act rd wrt pre still ready opened written control runs played logged queue start turnOf tickedOf currentOf choiceOf rulesOf planOf refreshPlan cycleLeft latencyPlan takenPlan accessPlan transferPlan writePlan readPlan rest tries outcomeOf quietly queueAfter countersAfter refreshedOf tickOf emptyOf kindIn requestIn requestAt storedOf acceptOf shiftedOf removeOf getOf fed startLog last openRow legalOf carriedOf requirements R7 R12-open R13-open R14 marksOf rowOf
+unfolding configOf geometryOf cellOf addressOf asked act rd wrt pre still ready opened written control runs played logged queue start turnOf tickedOf currentOf choiceOf rulesOf planOf refreshPlan cycleLeft latencyPlan takenPlan accessPlan transferPlan writePlan readPlan rest tries outcomeOf quietly queueAfter countersAfter refreshedOf tickOf emptyOf kindIn requestIn requestAt storedOf acceptOf shiftedOf removeOf getOf fed startLog last openRow legalOf carriedOf requirements R7 R12-open R13-open R14 R16 marksOf rowOf
 runs-played = refl
 
 -- The initialisation of E1's machine, in which each command is legal in the first slot that tries it: E5's slots 1 to 227, and then service.
@@ -407,7 +419,7 @@ counters-first : (next (control Idle false) (record { interval = 1; backlog = 3 
     × (next (control Idle false) (record { interval = 2; backlog = 3 }) 0 ≡ Idle)
     × (counted (control Idle false) (record { interval = 1; backlog = 3 }) 0 ≡ record { interval = 27; backlog = 4 })
     × (counted (control InitSettle false) (record { interval = 1; backlog = 3 }) 0 ≡ record { interval = 1; backlog = 3 })
-unfolding configOf geometryOf act ready control counted next logged turnOf tickedOf currentOf choiceOf rulesOf planOf rest tries outcomeOf quietly queueAfter countersAfter tickOf levelOf emptyOf getOf oldestOf fed startLog last openRow legalOf carriedOf requirements R7 R12-open R13-open R14 allClosed marksOf rowOf
+unfolding configOf geometryOf act ready control counted next logged turnOf tickedOf currentOf choiceOf rulesOf planOf rest tries outcomeOf quietly queueAfter countersAfter tickOf levelOf emptyOf getOf oldestOf fed startLog last openRow legalOf carriedOf requirements R7 R12-open R13-open R14 R16 allClosed marksOf rowOf
 counters-first = (refl, refl, refl, refl)
 
 -- A slot sees whether all banks are closed, and keeps the Must run flag as of its choice; where no choice is made, the flag stays.
@@ -423,5 +435,5 @@ flags : after (ready 32) (control Idle false) 3
     ∷ after (ready 32) (control Turnaround true) 0
     ∷ []
     ≡ control Refresh false ∷ control Idle false ∷ control Refresh true ∷ control Refresh true ∷ control Idle false ∷ control Idle true ∷ []
-unfolding configOf geometryOf act ready control after logged turnOf tickedOf currentOf choiceOf rulesOf planOf rest tries outcomeOf quietly queueAfter countersAfter tickOf levelOf emptyOf getOf oldestOf fed startLog last openRow legalOf carriedOf requirements R7 R12-open R13-open R14 allClosed marksOf rowOf
+unfolding configOf geometryOf act ready control after logged turnOf tickedOf currentOf choiceOf rulesOf planOf rest tries outcomeOf quietly queueAfter countersAfter tickOf levelOf emptyOf getOf oldestOf fed startLog last openRow legalOf carriedOf requirements R7 R12-open R13-open R14 R16 allClosed marksOf rowOf
 flags = refl

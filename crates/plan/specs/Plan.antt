@@ -61,7 +61,8 @@ tries k stays next = record { command = k; sent = quietly next; stays = stays }
 unfoldable pub rest : Action → Plan
 rest next = tries Nop next next
 
--- The initialisation: a pause, DEAC, eight REFR and MRS, each at its first legal slot, and one NOP.
+-- The initialisation: a pause, DEAC, eight REFR and MRS, each at its first legal slot, and one NOP. R16 keeps none of its REFRs back: by R3
+-- no ACT comes before the MRS.
 
 unfoldable pub afterPause : ℕ → Action
 afterPause n = cond (leb n 1) InitPrecharge (PowerUp (n - 1))

@@ -39,6 +39,7 @@ use Rattle.theorem.proofs.Invariant.{
   bankHeld,
   openHeld,
   allHeld,
+  cycleHeld,
   otherHeld,
   othersHeld,
   transferLeft,
@@ -121,6 +122,10 @@ module _ {c : Config} (ok : Accepted c) (p : Past) where
   pub all-most : allHeld c p ≤ max (c .ras) (c .wr)
   unfolding allHeld
   all-most = omega (arith, open-most 0, open-most 1, open-most 2, open-most 3)
+
+  pub cycle-most : cycleHeld c p ≤ c .rc
+  unfolding cycleHeld
+  cycle-most = omega (arith, short-most (rowCycle 0), short-most (rowCycle 1), short-most (rowCycle 2), short-most (rowCycle 3))
 
   other-most : (b o : ℕ) → otherHeld c p b o ≤ c .rrd
   unfolding otherHeld

@@ -8,7 +8,7 @@ use Rattle.config.specs.declared.Config.{Config}
 use Rattle.config.specs.Accepted.{acceptedOf as configAccepted, shapedOf, distancesOf, spannedOf}
 use Rattle.address.specs.Map.{capacityOf, cellOf, holdsOf, addressNumberOf}
 use Rattle.device.specs.View.{allClosed, marksOf, rowOf}
-use Rattle.device.specs.Rules.{R7, R12-open, R13-open, R14, requirements, legalOf, carriedOf}
+use Rattle.device.specs.Rules.{R7, R12-open, R13-open, R14, R16, requirements, legalOf, carriedOf}
 use Rattle.ages.specs.declared.Past.{Past}
 use Rattle.ages.specs.Ages.{pastOf, openIn, rowIn, openRows, agedOf, agesAfter, sentOf}
 use Rattle.queue.specs.declared.Kind.{Kind}
@@ -51,12 +51,33 @@ slow =
       refresh = 34;
     }
 
+-- tRC 16 and all other distances 1, CL 2: A 24, F 17, RR 126
+abbrev cycling : Config
+cycling =
+    record {
+      geometry = record { columns = 8; banks = 0; rows = 9 };
+      latency = 2;
+      rfc = 1;
+      rp = 1;
+      rcd = 1;
+      wr = 1;
+      ras = 1;
+      rc = 16;
+      rrd = 1;
+      rr = 126;
+      access = 24;
+      refresh = 17;
+    }
+
 -- every command was sent in the slot that is just over, which no device allows; banks are open that the device does not have
 abbrev rushed : Past
 rushed = pastOf (replicate 16 0) (replicate 4 true) (replicate 4 0) true
 
+abbrev madeOn : Config → Action → ℕ → Machine
+madeOn c a backlog = machineWith true c rushed (record { interval = 1; backlog = backlog }) (record { action = a; must = false }) emptyOf 0
+
 abbrev made : Action → ℕ → Machine
-made a backlog = machineWith true slow rushed (record { interval = 1; backlog = backlog }) (record { action = a; must = false }) emptyOf 0
+made = madeOn slow
 
 -- so many slots, after two requests
 abbrev busy : ℕ → List Call
@@ -71,17 +92,20 @@ record Examples : Type 0 where
       × (inService (afterCalls (made InitPrecharge 0) (busy 291) .control .action) ≡ true)
   -- a refresh under way waits for tRFC, and then takes tRP + tRFC slots: a choice comes in slot 66, not within A + F = 43 slots
   chosen : (chooses (made PrechargeAll 15) (busy 65) ≡ false) × (chooses (made PrechargeAll 15) (busy 66) ≡ true)
+  -- and one that waits for tRC has its REFR in slot 17, tRC after the ACTs, also of banks that the device does not have
+  cycled : (soundOf (madeOn cycling PrechargeAll 15) ≡ true) × (chooses (madeOn cycling PrechargeAll 15) (busy 17) ≡ false) × (chooses (madeOn cycling PrechargeAll 15) (busy 18) ≡ true)
   -- a backlog of 15, and two intervals that expire meanwhile, take 17 refreshes; at backlog 3 with a bank open there is none
   worked-off : (worksOff (made Idle 15) (replicate 562 0) ≡ true) × (worksOff (made Idle 15) (replicate 561 0) ≡ false) × (refreshedNext (made Idle 3) ≡ false)
   bounds : startWithin slow ∷ choiceWithin slow ∷ workedOffWithin slow ∷ [] ≡ 1963 ∷ 68 ∷ 680 ∷ []
 
 examples : Examples
-unfolding startWithin firstService choiceWithin workedOffWithin recordNumberBy roomNumberOf requestNumberBy queuedRequest enqueuedOf requestOf refusedWith slotOf stepOf configAccepted shapedOf distancesOf spannedOf stateBy fitBy soundBy soundAction capacityOf cellOf holdsOf addressNumberOf allClosed marksOf rowOf legalOf requirements R7 R12-open R13-open R14 openIn rowIn openRows agedOf agesAfter sentOf carriedOf emptyOf acceptOf storedOf removeOf shiftedOf getOf requestAt requestIn kindIn blockedOf readyOf oldestOf counting.tickOf counting.refreshedOf counting.soundCounters levelOf plan.quietly plan.outcomeOf plan.tries plan.rest plan.afterPause plan.afterInitRefresh plan.readPlan plan.writePlan plan.transferPlan plan.accessPlan plan.takenPlan plan.latencyPlan plan.cycleLeft plan.refreshPlan plan.planOf plan.queueAfter plan.countersAfter choice.rulesOf choice.choiceOf choice.currentOf tickedOf turnOf
+unfolding startWithin firstService choiceWithin workedOffWithin recordNumberBy roomNumberOf requestNumberBy queuedRequest enqueuedOf requestOf refusedWith slotOf stepOf configAccepted shapedOf distancesOf spannedOf stateBy fitBy soundBy soundAction capacityOf cellOf holdsOf addressNumberOf allClosed marksOf rowOf legalOf requirements R7 R12-open R13-open R14 R16 openIn rowIn openRows agedOf agesAfter sentOf carriedOf emptyOf acceptOf storedOf removeOf shiftedOf getOf requestAt requestIn kindIn blockedOf readyOf oldestOf counting.tickOf counting.refreshedOf counting.soundCounters levelOf plan.quietly plan.outcomeOf plan.tries plan.rest plan.afterPause plan.afterInitRefresh plan.readPlan plan.writePlan plan.transferPlan plan.accessPlan plan.takenPlan plan.latencyPlan plan.cycleLeft plan.refreshPlan plan.planOf plan.queueAfter plan.countersAfter choice.rulesOf choice.choiceOf choice.currentOf tickedOf turnOf
 examples =
     record {
       sound = (refl, refl, refl);
       started = (refl, refl);
       chosen = (refl, refl);
+      cycled = (refl, refl, refl);
       worked-off = (refl, refl, refl);
       bounds = refl;
     }

@@ -12,7 +12,7 @@ use Rattle.address.specs.Map.{capacityOf, cellOf, holdsOf, addressNumberOf}
 use Rattle.command.specs.declared.Command.{Command}
 use Rattle.command.specs.declared.Command.the-variants.{Nop, Deac, Refr}
 use Rattle.device.specs.View.{allClosed, marksOf, rowOf}
-use Rattle.device.specs.Rules.{R7, R12-open, R13-open, R14, requirements, legalOf, carriedOf}
+use Rattle.device.specs.Rules.{R7, R12-open, R13-open, R14, R16, requirements, legalOf, carriedOf}
 use Rattle.ages.specs.declared.Past.{Past}
 use Rattle.ages.specs.Ages.{cap, pastOf, freshOf, openIn, rowIn, openRows, agedOf, agesAfter, sentOf}
 use Rattle.queue.specs.declared.Kind.{Kind}
@@ -384,5 +384,5 @@ record Examples : Type 0 where
       ≡ record { number = 9; backlog = 0 } ∷ record { number = 8; backlog = 0 } ∷ record { number = 0; backlog = 0 } ∷ record { number = 0; backlog = 15 } ∷ []
 
 examples : Examples
-unfolding sound unsound refusals slots many shownMany seriesOf batchOf manySlotsOf wordOf commandWord reportWord configuredBy configureOf recordNumberBy roomNumberOf requestNumberBy queuedRequest enqueuedOf requestOf refusedWith slotOf backlogOf blankOf machineOf stepOf configAccepted shapedOf distancesOf spannedOf stateBy fitBy soundBy soundAction reservedMap reservedAll offeredOf geometryOf configOf checkedOf settingOf capacityOf cellOf holdsOf addressNumberOf allClosed marksOf rowOf legalOf requirements R7 R12-open R13-open R14 freshOf openIn rowIn openRows agedOf agesAfter sentOf carriedOf emptyOf acceptOf storedOf removeOf shiftedOf getOf requestAt requestIn kindIn blockedOf readyOf oldestOf counting.startOf counting.tickOf counting.refreshedOf counting.soundCounters levelOf plan.quietly plan.outcomeOf plan.tries plan.rest plan.afterPause plan.afterInitRefresh plan.readPlan plan.writePlan plan.transferPlan plan.accessPlan plan.takenPlan plan.latencyPlan plan.cycleLeft plan.refreshPlan plan.planOf plan.queueAfter plan.countersAfter choice.rulesOf choice.choiceOf choice.currentOf tickedOf turnOf
+unfolding sound unsound refusals slots many shownMany seriesOf batchOf manySlotsOf wordOf commandWord reportWord configuredBy configureOf recordNumberBy roomNumberOf requestNumberBy queuedRequest enqueuedOf requestOf refusedWith slotOf backlogOf blankOf machineOf stepOf configAccepted shapedOf distancesOf spannedOf stateBy fitBy soundBy soundAction reservedMap reservedAll offeredOf geometryOf configOf checkedOf settingOf capacityOf cellOf holdsOf addressNumberOf allClosed marksOf rowOf legalOf requirements R7 R12-open R13-open R14 R16 freshOf openIn rowIn openRows agedOf agesAfter sentOf carriedOf emptyOf acceptOf storedOf removeOf shiftedOf getOf requestAt requestIn kindIn blockedOf readyOf oldestOf counting.startOf counting.tickOf counting.refreshedOf counting.soundCounters levelOf plan.quietly plan.outcomeOf plan.tries plan.rest plan.afterPause plan.afterInitRefresh plan.readPlan plan.writePlan plan.transferPlan plan.accessPlan plan.takenPlan plan.latencyPlan plan.cycleLeft plan.refreshPlan plan.planOf plan.queueAfter plan.countersAfter choice.rulesOf choice.choiceOf choice.currentOf tickedOf turnOf
 examples = record { soundness = refl; configured = refl; reads = refl; writes = refl; room = refl; last = refl; steps = refl; batches = refl; batch-machine = refl; readings = refl }

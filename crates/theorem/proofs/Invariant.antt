@@ -127,6 +127,10 @@ openHeld c p b = cond (isSome (rowAt p b)) (bankHeld c p b) 0
 unfoldable pub allHeld : Config → Past → ℕ
 allHeld c p = max (max (openHeld c p 0) (openHeld c p 1)) (max (openHeld c p 2) (openHeld c p 3))
 
+-- what R16 keeps a REFR back
+unfoldable pub cycleHeld : Config → Past → ℕ
+cycleHeld c p = max (max (short c p (rowCycle 0)) (short c p (rowCycle 1))) (max (short c p (rowCycle 2)) (short c p (rowCycle 3)))
+
 -- what R7 keeps an ACT of bank b back
 unfoldable pub otherHeld : Config → Past → ℕ → ℕ → ℕ
 otherHeld c p b other = cond (eqb other b) 0 (short c p (rowToRow other))
@@ -166,8 +170,8 @@ leftOf c p q Idle = 0
 leftOf c p q (Access i) = let r : Request = getOf q i in accessLeft c p (r .kind) (cellFor (c .geometry) r)
 leftOf c p q (CasLatency i left) = left + 1
 leftOf c p q Turnaround = 1
-leftOf c p q PrechargeAll = allHeld c p + c .rp + c .rfc
-leftOf c p q Refresh = short c p anyPrecharge + c .rfc
+leftOf c p q PrechargeAll = max (allHeld c p + c .rp) (cycleHeld c p) + c .rfc
+leftOf c p q Refresh = max (short c p anyPrecharge) (cycleHeld c p) + c .rfc
 leftOf c p q (RefreshCycle left) = left
 
 -- what a refresh owed now waits for besides: nothing if the action is that refresh, otherwise a whole refresh after the action

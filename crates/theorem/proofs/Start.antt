@@ -5,16 +5,16 @@ use mathlib.Core.Path.{_≡_, refl, sym, ap, _∙_}
 use mathlib.Core.List.{[], _∷_, _++_}
 use mathlib.Core.Logic.{_⊎_, inl, inr, ⊎-elim}
 use mathlib.Core.Bool.{true, false, _&&_, true≢false, false≢true}
-use lib.Dec.{leb}
-use borrow.Author.Tests.{leb-true, leb-false, le-leb, eq-eqb}
+use lib.Dec.{leb, eqb}
+use borrow.Author.Tests.{leb-true, leb-false, le-leb}
 use Rattle.config.specs.declared.Config.{Config}
 use Rattle.config.specs.Accepted.{Accepted}
 use Rattle.command.specs.declared.Command.{Command}
 use Rattle.command.specs.declared.Command.the-variants.{Nop, Deac, Refr, Mrs}
-use Rattle.device.specs.View.{refreshCycle, modeRegister, anyPrecharge, allClosed, marksOf, rowOf}
-use Rattle.device.specs.Rules.{allHold, R12-open, R13-open, R14, R15, requirements, legalOf}
+use Rattle.device.specs.View.{refreshCycle, modeRegister, anyPrecharge, rowCycle, starts, allClosed, marksOf, rowOf}
+use Rattle.device.specs.Rules.{allHold, R12-open, R13-open, R14, R15, R16, requirements, legalOf}
 use Rattle.device.proofs.Tests.{by-test, if-both, both}
-use Rattle.device.proofs.Alike.{hold-append}
+use Rattle.device.proofs.Alike.{hold-append, prechargedRules, refr-parts, mrs-parts}
 use Rattle.ages.specs.declared.Past.{Past}
 use Rattle.ages.specs.Ages.{cap, freshOf, ageOf, openIn, rowIn, openRows, rowAt, byAges, agedOf, agesAfter, sentOf}
 use Rattle.ages.proofs.Slot.{sent-age}
@@ -40,27 +40,29 @@ use Rattle.soundness.proofs.Past.{nop-closed, refr-closed, deac-closed}
 use Rattle.soundness.proofs.Plans.{Served, performedOf, servedOf, performed-both, rest-only}
 use Rattle.model.specs.Condition.{firstService}
 use Rattle.theorem.proofs.Timing.Actions.{older-sent}
-use Rattle.theorem.proofs.Timing.Distances.{R14-closed}
+use Rattle.theorem.proofs.Invariant.{short, cycleHeld}
+use Rattle.theorem.proofs.Timing.Distances.{Ready, cycle-falls, refr-ready, mrs-ready}
 
 -- the slot of the MRS
 abbrev modeSlot : Config → ℕ
 modeSlot c = 8 * c .rr + 1 + c .rp + 8 * c .rfc
 
--- banks closed; the DEAC and the REFRs behind
-pub record Closed (p : Past) : Type 0 where
+-- banks closed; the DEAC and the REFRs behind; no ACT has been sent, so R16 keeps no REFR back
+pub record Closed (c : Config) (p : Past) : Type 0 where
   pub closed : allClosed (rowAt p) ≡ true
   pub unset : 2 ≤ ageOf p modeRegister
+  pub cycled : cycleHeld c p ≡ 0
 
 -- n REFRs are left, and the next is sent as soon as tRP after the DEAC and tRFC after the one before are kept
 pub record Refreshing (c : Config) (p : Past) (now n : ℕ) : Type 0 where
-  pub closed : Closed p
+  pub closed : Closed c p
   pub least : 1 ≤ n
   pub most : n ≤ 8
   pub one : (c .rfc ≤ ageOf p refreshCycle) ⊎ (c .rp ≤ ageOf p anyPrecharge)
   pub next : now + ((c .rp - ageOf p anyPrecharge) + (c .rfc - ageOf p refreshCycle)) + n * c .rfc ≡ modeSlot c
 
 pub record ModeDue (c : Config) (p : Past) (now : ℕ) : Type 0 where
-  pub closed : Closed p
+  pub closed : Closed c p
   pub kept : c .rp ≤ ageOf p anyPrecharge
   pub next : now + (c .rfc - ageOf p refreshCycle) ≡ modeSlot c
 
@@ -95,6 +97,10 @@ fresh-deac : (c : Config) → c .rfc ≤ cap → legalOf c (byAges c freshOf) De
 unfolding legalOf requirements R12-open R13-open freshOf openRows rowIn openIn
 fresh-deac c h = simp (le-leb (c .rfc) cap h)
 
+fresh-cycled : (c : Config) → c .rc ≤ cap → cycleHeld c freshOf ≡ 0
+unfolding cycleHeld short freshOf
+fresh-cycled c h = omega arith
+
 module _ (p : Past) where
   -- the ages after a NOP, a REFR and an MRS
   nop-ages : (ageOf (sentOf p Nop) refreshCycle ≡ min cap (suc (ageOf p refreshCycle)))
@@ -119,39 +125,44 @@ module _ (p : Past) where
   unfolding sentOf marksOf
   mrs-ages w = (older-sent p (Mrs w) refreshCycle tt refl, sent-age p (Mrs w) modeRegister tt, refl)
 
--- an MRS's rules are R1 and a REFR's
-pub mrs-refr : (c : Config) (p : Past) → legalOf c (byAges c p) (Mrs (modeWord c)) ≡ legalOf c (byAges c p) Refr
-unfolding legalOf requirements
-mrs-refr c p = rw (eq-eqb (modeWord c) (modeWord c) refl)
-
 -- REFR and MRS are legal exactly when both distances are kept
-module _ (c : Config) (p : Past) (q : Closed p) where
-  -- what REFR and MRS require, but for R2 and the word
-  rest-ready : c .rp ≤ ageOf p anyPrecharge → allHold (R14 (byAges c p) ++ R15 (byAges c p) ∷ []) ≡ true
-  rest-ready b = hold-append (R14 (byAges c p)) (R15 (byAges c p) ∷ []) ∙ simp (R14-closed c p, q .closed, le-leb (c .rp) (ageOf p anyPrecharge) b)
+module _ (c : Config) (p : Past) (q : Closed c p) where
+  ready : c .rfc ≤ ageOf p refreshCycle → Ready c p
+  ready a = record { cycle = a; mode = q .unset }
 
-  rest-kept : allHold (R14 (byAges c p) ++ R15 (byAges c p) ∷ []) ≡ true → c .rp ≤ ageOf p anyPrecharge
-  rest-kept h =
-      let x = both (allHold (R14 (byAges c p))) (leb (c .rp) (ageOf p anyPrecharge) && true) (sym (hold-append (R14 (byAges c p)) (R15 (byAges c p) ∷ [])) ∙ h) in
-      leb-true _ _ (both (leb (c .rp) (ageOf p anyPrecharge)) true (x .1) .0)
+  refr-legal : c .rfc ≤ ageOf p refreshCycle → c .rp ≤ ageOf p anyPrecharge → legalOf c (byAges c p) Refr ≡ true
+  unfolding short
+  refr-legal a b = refr-ready c p (ready a) (q .closed) (omega arith) (q .cycled)
 
-  refr-ready : c .rfc ≤ ageOf p refreshCycle → c .rp ≤ ageOf p anyPrecharge → legalOf c (byAges c p) Refr ≡ true
-  unfolding legalOf requirements
-  refr-ready a b = simp (le-leb (c .rfc) (ageOf p refreshCycle) a, le-leb 2 (ageOf p modeRegister) (q .unset), rest-ready b)
+  mrs-legal : c .rfc ≤ ageOf p refreshCycle → c .rp ≤ ageOf p anyPrecharge → legalOf c (byAges c p) (Mrs (modeWord c)) ≡ true
+  unfolding short
+  mrs-legal a b = mrs-ready c p (ready a) (q .closed) (omega arith)
 
-  refr-kept : legalOf c (byAges c p) Refr ≡ true → (c .rfc ≤ ageOf p refreshCycle) × (c .rp ≤ ageOf p anyPrecharge)
-  unfolding legalOf requirements
-  refr-kept h =
+  precharged-kept : allHold (prechargedRules (byAges c p)) ≡ true → (c .rfc ≤ ageOf p refreshCycle) × (c .rp ≤ ageOf p anyPrecharge)
+  precharged-kept h =
       let others = allHold (R14 (byAges c p) ++ R15 (byAges c p) ∷ []) in
       let x = both (leb (c .rfc) (ageOf p refreshCycle)) (leb 2 (ageOf p modeRegister) && others) h in
       let y = both (leb 2 (ageOf p modeRegister)) others (x .1) in
-      (leb-true _ _ (x .0), rest-kept (y .1))
+      let z = both (allHold (R14 (byAges c p))) (leb (c .rp) (ageOf p anyPrecharge) && true) (sym (hold-append (R14 (byAges c p)) (R15 (byAges c p) ∷ [])) ∙ y .1) in
+      (leb-true _ _ (x .0), leb-true _ _ (both (leb (c .rp) (ageOf p anyPrecharge)) true (z .1) .0))
 
-quiet-nop : (p : Past) → Closed p → Closed (sentOf p Nop)
-quiet-nop p q = let e = nop-ages p .2 in record { closed = nop-closed p ∙ q .closed; unset = omega (arith, q .unset) }
+  refr-kept : legalOf c (byAges c p) Refr ≡ true → (c .rfc ≤ ageOf p refreshCycle) × (c .rp ≤ ageOf p anyPrecharge)
+  refr-kept h = precharged-kept (both (allHold (prechargedRules (byAges c p))) (allHold (R16 (byAges c p))) (sym (refr-parts c (byAges c p)) ∙ h) .0)
 
-quiet-refr : (p : Past) → Closed p → Closed (sentOf p Refr)
-quiet-refr p q = let e = refr-ages p .2 in record { closed = refr-closed p ∙ q .closed; unset = omega (arith, q .unset) }
+  mrs-kept : legalOf c (byAges c p) (Mrs (modeWord c)) ≡ true → c .rfc ≤ ageOf p refreshCycle
+  mrs-kept h = precharged-kept (both (eqb (modeWord c) (16 * c .latency)) (allHold (prechargedRules (byAges c p))) (sym (mrs-parts c (byAges c p) (modeWord c)) ∙ h) .1) .0
+
+module _ {c : Config} (ok : Accepted c) (p : Past) (q : Closed c p) where
+  still-cycled : (k : Command) → ((b : ℕ) → starts (rowCycle b) k ≡ false) → cycleHeld c (sentOf p k) ≡ 0
+  still-cycled k f = omega (arith, cycle-falls ok p k f .by, q .cycled)
+
+  quiet-nop : Closed c (sentOf p Nop)
+  unfolding marksOf
+  quiet-nop = let e = nop-ages p .2 in record { closed = nop-closed p ∙ q .closed; unset = omega (arith, q .unset); cycled = still-cycled Nop (λ b. refl) }
+
+  quiet-refr : Closed c (sentOf p Refr)
+  unfolding marksOf
+  quiet-refr = let e = refr-ages p .2 in record { closed = refr-closed p ∙ q .closed; unset = omega (arith, q .unset); cycled = still-cycled Refr (λ b. refl) }
 
 -- n REFRs of tRFC each
 pub one-less : (n f : ℕ) → 1 ≤ n → n * f ≡ (n - 1) * f + f
@@ -174,7 +185,7 @@ module _ (c : Config) (a : Accepted c) where
   unfolding sentOf agesAfter freshOf agedOf marksOf rowOf
   precharging now e =
       record {
-        closed = record { closed = deac-closed freshOf; unset = omega arith };
+        closed = record { closed = deac-closed freshOf; unset = omega arith; cycled = omega (arith, cycle-falls a freshOf Deac (λ b. refl) .by, fresh-cycled c (omega (arith, a .rc-most))) };
         least = omega arith;
         most = omega arith;
         one = inl (a .rfc-most);
@@ -193,14 +204,14 @@ module _ (c : Config) (a : Accepted c) where
       let single : n ≡ 1 = omega (arith, m, s .least) in
       let once : n * c .rfc ≡ c .rfc = ap (λ x. x * c .rfc) single ∙ omega arith in
       record {
-        closed = quiet-refr p (s .closed);
+        closed = quiet-refr a p (s .closed);
         kept = omega (arith, ages .1, kept .1, a .rp-most);
         next = omega (arith, ages .0, kept .0, kept .1, s .next, once, a .rfc-least);
       })
       (λ h.
       let m = leb-false n 1 h in
       record {
-        closed = quiet-refr p (s .closed);
+        closed = quiet-refr a p (s .closed);
         least = omega arith;
         most = omega (arith, s .most);
         one = inr (omega (arith, ages .1, kept .1, a .rp-most));
@@ -214,10 +225,10 @@ module _ (c : Config) (a : Accepted c) where
       (λ kept.
       let missing : ageOf p anyPrecharge < c .rp
       = by-test (leb (c .rp) (ageOf p anyPrecharge))
-      (λ h. absurd (true≢false (sym (refr-ready c p (s .closed) kept (leb-true _ _ h)) ∙ illegal)))
+      (λ h. absurd (true≢false (sym (refr-legal c p (s .closed) kept (leb-true _ _ h)) ∙ illegal)))
       (λ h. leb-false _ _ h) in
       record {
-        closed = quiet-nop p (s .closed);
+        closed = quiet-nop a p (s .closed);
         least = s .least;
         most = s .most;
         one = inl (omega (arith, ages .0, kept, a .rfc-most));
@@ -226,10 +237,10 @@ module _ (c : Config) (a : Accepted c) where
       (λ kept.
       let missing : ageOf p refreshCycle < c .rfc
       = by-test (leb (c .rfc) (ageOf p refreshCycle))
-      (λ h. absurd (true≢false (sym (refr-ready c p (s .closed) (leb-true _ _ h) kept) ∙ illegal)))
+      (λ h. absurd (true≢false (sym (refr-legal c p (s .closed) (leb-true _ _ h) kept) ∙ illegal)))
       (λ h. leb-false _ _ h) in
       record {
-        closed = quiet-nop p (s .closed);
+        closed = quiet-nop a p (s .closed);
         least = s .least;
         most = s .most;
         one = inr (omega (arith, ages .1, kept, a .rp-most));
@@ -239,7 +250,7 @@ module _ (c : Config) (a : Accepted c) where
 
   setting-sent : (p : Past) (now : ℕ) → ModeDue c p now → legalOf c (byAges c p) (Mrs (modeWord c)) ≡ true → Set c (sentOf p (Mrs (modeWord c))) 1 (suc now)
   setting-sent p now s legal =
-      let kept = refr-kept c p (s .closed) (sym (mrs-refr c p) ∙ legal) .0 in
+      let kept = mrs-kept c p (s .closed) legal in
       let ages = mrs-ages p (modeWord c) in
       record {
         programmed = ages .2;
@@ -253,10 +264,10 @@ module _ (c : Config) (a : Accepted c) where
       let ages = nop-ages p in
       let missing : ageOf p refreshCycle < c .rfc
       = by-test (leb (c .rfc) (ageOf p refreshCycle))
-      (λ h. absurd (true≢false (sym (mrs-refr c p ∙ refr-ready c p (s .closed) (leb-true _ _ h) (s .kept)) ∙ illegal)))
+      (λ h. absurd (true≢false (sym (mrs-legal c p (s .closed) (leb-true _ _ h) (s .kept)) ∙ illegal)))
       (λ h. leb-false _ _ h) in
       record {
-        closed = quiet-nop p (s .closed);
+        closed = quiet-nop a p (s .closed);
         kept = omega (arith, ages .1, s .kept, a .rp-most);
         next = omega (arith, ages .0, missing, s .next, a .rfc-most);
       }

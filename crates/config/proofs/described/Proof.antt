@@ -1,8 +1,18 @@
 -- Each value is a field, and the spans fit a byte.
 use borrow.Author.Needs.{needs}
+use Prim.Native.Nat.{ℕ, _<_, max}
+use mathlib.Core.Path.{_≡_}
+use native.Mathlib.Omega.{arith}
 use Rattle.config.proofs.described.Statement.{statement}
 use Rattle.config.proofs.described.Tie as tie
-use Rattle.config.specs.Setting.{configOf}
+use Rattle.words.specs.Words.{fieldOf, T-RFC, T-RP, T-WR, T-RAS, T-RC}
+use Rattle.config.specs.Setting.{configOf, refreshSpan, slots}
+
+-- the refresh span of the fields of TIM fits a byte
+byte : (tim : ℕ) {span m ras wr rp rc rfc : ℕ} → span ≡ refreshSpan m rp rc rfc → m ≡ max ras wr
+    → ras ≡ slots (fieldOf tim T-RAS) → wr ≡ slots (fieldOf tim T-WR) → rp ≡ slots (fieldOf tim T-RP) → rc ≡ slots (fieldOf tim T-RC)
+    → rfc ≡ slots (fieldOf tim T-RFC) → span < 256
+byte tim e f h i j k l = omega arith
 
 shape-requires : tie.Need-shape-requires
 shape-requires c κs = search needs
@@ -53,7 +63,17 @@ refresh-span-requires : tie.Need-refresh-span-requires
 refresh-span-requires c κs = search needs
 
 cast-t20 : tie.Need-cast-t20
-cast-t20 c = search needs
+cast-t20 c =
+    let at-larger = c .before .before .before in
+    let at-rc = at-larger .before .before in
+    let at-ras = at-rc .before in
+    let at-wr = at-ras .before in
+    let at-rp = at-wr .before .before in
+    let at-rfc = at-rp .before in
+    record {
+      fits = byte (at-rfc .before .before .before .args .tim) (c .refresh-span .ensures) (at-larger .larger .ensures) (at-ras .slots5 .ensures) (at-wr .slots4 .ensures)
+          (at-rp .slots2 .ensures) (at-rc .slots6 .ensures) (at-rfc .slots .ensures);
+    }
 
 returns : tie.Need-returns
 unfolding configOf

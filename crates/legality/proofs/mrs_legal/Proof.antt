@@ -1,4 +1,4 @@
--- R1's word first; the rest of MRS is REFR's.
+-- R1's word first, and then what MRS has in common with REFR.
 use borrow.Author.Needs.{needs}
 use Rattle.legality.proofs.mrs_legal.Statement.{statement}
 use Rattle.legality.proofs.mrs_legal.Tie as tie
@@ -14,11 +14,11 @@ mul-if1 c = search needs
 returns : tie.Need-returns
 returns c rows programmed = rw (mrs-is, ne-eqb _ _ (c .if1 .taken))
 
-refr-legal-requires : tie.Need-refr-legal-requires
-refr-legal-requires c κs = search needs
+all-precharged-requires : tie.Need-all-precharged-requires
+all-precharged-requires c κs = search needs
 
 returns-2 : tie.Need-returns-2
-returns-2 c rows programmed = rw (mrs-is, eq-eqb _ _ (c .before .if1 .left)) (c .refr-legal .ensures rows programmed)
+returns-2 c rows programmed = rw (mrs-is, eq-eqb _ _ (c .before .if1 .left)) (c .all-precharged .ensures rows)
 
 pub mrs-legal-spec : {M : Type 1} → statement M
-mrs-legal-spec = tie.close (tie.spec cast-if1 mul-if1 returns refr-legal-requires returns-2)
+mrs-legal-spec = tie.close (tie.spec cast-if1 mul-if1 returns all-precharged-requires returns-2)

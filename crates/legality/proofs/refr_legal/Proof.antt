@@ -1,39 +1,20 @@
--- REFR's rules in order: each test taken or left settles one.
+-- REFR's rules are those that it has in common with MRS, and then R16.
 use borrow.Author.Needs.{needs}
 use Rattle.legality.proofs.refr_legal.Statement.{statement}
 use Rattle.legality.proofs.refr_legal.Tie as tie
 use Rattle.legality.proofs.Hold.{refr-is, passed, failed}
-use borrow.Author.Tests.{le-leb, lt-leb}
 
-settled-requires : tie.Need-settled-requires
-settled-requires c κs = search needs
+all-precharged-requires : tie.Need-all-precharged-requires
+all-precharged-requires c κs = search needs
 
 returns : tie.Need-returns
-returns c rows programmed = rw (refr-is, failed (c .before .settled .ensures) (c .if1 .taken))
+returns c rows programmed = rw (refr-is, failed (c .before .all-precharged .ensures rows) (c .if1 .taken))
 
-all-closed-requires : tie.Need-all-closed-requires
-all-closed-requires c κs = search needs
+all-cycled-requires : tie.Need-all-cycled-requires
+all-cycled-requires c κs = search needs
 
 returns-2 : tie.Need-returns-2
-returns-2 c rows programmed = rw (refr-is, passed (c .before .before .before .settled .ensures) (c .before .before .if1 .left), failed (c .before .all-closed .ensures rows) (c .if2 .taken))
-
-element-copy-out-if3 : tie.Need-element-copy-out-if3
-element-copy-out-if3 c = search needs
-
-returns-3 : tie.Need-returns-3
-returns-3 c rows programmed = let d = c .before .before .before in rw (refr-is, passed (d .before .before .before .settled .ensures) (d .before .before .if1 .left), passed (d .before .all-closed .ensures rows) (d .if2 .left), lt-leb _ _ (c .if3 .taken))
-
-returns-4 : tie.Need-returns-4
-returns-4 c rows programmed = let d = c .before .before .before in rw (refr-is, passed (d .before .before .before .settled .ensures) (d .before .before .if1 .left), passed (d .before .all-closed .ensures rows) (d .if2 .left), le-leb _ _ (c .if3 .left))
+returns-2 c rows programmed = rw (refr-is, passed (c .before .before .all-precharged .ensures rows) (c .before .if1 .left)) (c .all-cycled .ensures _ rows programmed)
 
 pub refr-legal-spec : {M : Type 1} → statement M
-refr-legal-spec =
-    tie.close
-    (tie.spec
-    settled-requires
-    returns
-    all-closed-requires
-    returns-2
-    element-copy-out-if3
-    returns-3
-    returns-4)
+refr-legal-spec = tie.close (tie.spec all-precharged-requires returns all-cycled-requires returns-2)

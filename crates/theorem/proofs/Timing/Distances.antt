@@ -1,17 +1,17 @@
 -- What is left of the distances: a slot takes one from each that its command does not start anew, and where nothing is left a command is legal.
 use Prim.Native.Nat.{ℕ, suc, _+_, _-_, _^_, _≤_, _<_, min, max}
-use mathlib.Core.Path.{_≡_, refl, ap, ap₂}
+use mathlib.Core.Path.{_≡_, refl, ap, ap₂, _∙_}
 use mathlib.Core.Bool.{Bool, true, false, cond, not, _&&_, _||_, false≢true}
 use native.Mathlib.Omega.{arith}
 use lib.Dec.{leb, eqb, lit<}
-use borrow.Author.Tests.{le-leb, lt-ltb}
+use borrow.Author.Tests.{le-leb, lt-ltb, eq-eqb}
 use Rattle.config.specs.declared.Config.{Config}
 use Rattle.config.specs.Accepted.{Accepted}
 use Rattle.address.specs.declared.Bank.{Bank}
 use Rattle.address.specs.declared.Row.{Row}
 use Rattle.address.specs.declared.Column.{Column}
 use Rattle.command.specs.declared.Command.{Command}
-use Rattle.command.specs.declared.Command.the-variants.{Nop, Act, Read, Wrt, Pre, Deac, Refr}
+use Rattle.command.specs.declared.Command.the-variants.{Nop, Act, Read, Wrt, Pre, Deac, Refr, Mrs}
 use Rattle.device.specs.View.{
   Distance,
   refreshCycle,
@@ -30,12 +30,13 @@ use Rattle.device.specs.View.{
   isSome,
   allClosed,
 }
-use Rattle.device.specs.Rules.{allHold, R7, R12-open, R13-open, R14, requirements, legalOf}
-use Rattle.device.proofs.Alike.{Known}
+use Rattle.device.specs.Rules.{allHold, R7, R12-open, R13-open, R14, R16, requirements, legalOf}
+use Rattle.device.proofs.Alike.{Known, prechargedRules, refr-parts, mrs-parts}
 use Rattle.ages.specs.declared.Past.{Past}
 use Rattle.ages.specs.Ages.{cap, ageOf, rowAt, byAges, sentOf}
 use Rattle.ages.proofs.Slot.{Aged, sent-age, sent-row, reached, some-slots}
-use Rattle.theorem.proofs.Invariant.{short, bankHeld, openHeld, allHeld, otherHeld, othersHeld}
+use Rattle.plan.specs.Plan.{modeWord}
+use Rattle.theorem.proofs.Invariant.{short, bankHeld, openHeld, allHeld, cycleHeld, otherHeld, othersHeld}
 
 -- less by one, down to nothing
 pub record Falls (after before : ℕ) : Type 0 where
@@ -92,6 +93,14 @@ module _ {c : Config} (ok : Accepted c) (p : Past) where
   all-falls =
       max-falls (max-falls (open-falls 0 (lit< tt)) (open-falls 1 (lit< tt))) (max-falls (open-falls 2 (lit< tt)) (open-falls 3 (lit< tt)))
 
+  -- by every command but an ACT
+  pub cycle-falls : (k : Command) → ((b : ℕ) → starts (rowCycle b) k ≡ false) → Falls (cycleHeld c (sentOf p k)) (cycleHeld c p)
+  unfolding cycleHeld
+  cycle-falls k f = max-falls (max-falls (at 0 (lit< tt)) (at 1 (lit< tt))) (max-falls (at 2 (lit< tt)) (at 3 (lit< tt)))
+    where
+      at : (b : ℕ) → b < 4 → Falls (short c (sentOf p k) (rowCycle b)) (short c p (rowCycle b))
+      at b h = short-falls ok p k (rowCycle b) h (f b)
+
   other-falls : (k : Command) (b o : ℕ) → o < 4 → starts (rowToRow o) k ≡ false → Falls (otherHeld c (sentOf p k) b o) (otherHeld c p b o)
   unfolding otherHeld
   other-falls k b o h f = go (eqb o b)
@@ -128,6 +137,13 @@ module _ {c : Config} (ok : Accepted c) {p : Past} (aged : Aged p) where
   pub all-least : allHeld c p + 1 ≤ max (c .ras) (c .wr)
   unfolding allHeld
   all-least = omega (arith, open-least 0 (lit< tt), open-least 1 (lit< tt), open-least 2 (lit< tt), open-least 3 (lit< tt))
+
+  pub cycle-least : cycleHeld c p + 1 ≤ c .rc
+  unfolding cycleHeld
+  cycle-least = omega (arith, at 0 (lit< tt), at 1 (lit< tt), at 2 (lit< tt), at 3 (lit< tt))
+    where
+      at : (b : ℕ) → b < 4 → short c p (rowCycle b) + 1 ≤ c .rc
+      at b h = short-least ok aged (rowCycle b) h
 
   other-least : (b o : ℕ) → o < 4 → otherHeld c p b o + 1 ≤ c .rrd
   unfolding otherHeld
@@ -181,17 +197,14 @@ module _ (c : Config) (p : Past) where
       go true y = bank-ready b y
       go false y = (refl, refl)
 
-  -- all banks closed, as R14 asks it
-  pub R14-closed : allHold (R14 (byAges c p)) ≡ allClosed (rowAt p)
-  unfolding R14 allClosed
-  R14-closed = go (not (isSome (rowAt p 0))) (not (isSome (rowAt p 1))) (not (isSome (rowAt p 2))) (not (isSome (rowAt p 3)))
-    where
-      go : (x y z t : Bool) → (x && (y && (z && (t && true)))) ≡ (x && (y && (z && t)))
-      go true true true true = refl
-      go true true true false = refl
-      go true true false t = refl
-      go true false z t = refl
-      go false y z t = refl
+  R16-ready : cycleHeld c p ≡ 0 → allHold (R16 (byAges c p)) ≡ true
+  unfolding R16 cycleHeld
+  R16-ready e =
+      short-kept c p (rowCycle 0) (omega arith)
+      both short-kept c p (rowCycle 1) (omega arith)
+      both short-kept c p (rowCycle 2) (omega arith)
+      both short-kept c p (rowCycle 3) (omega arith)
+      both refl
 
   -- each command, where it has its place and nothing is left of its distances
   module _ (ready : Ready c p) where
@@ -265,10 +278,10 @@ module _ (c : Config) (p : Past) where
         both r3 .1
         both refl
 
-    -- REFR as its parts: R2, all banks closed, and tRP
-    pub refr-ready : allClosed (rowAt p) ≡ true → short c p anyPrecharge ≡ 0 → legalOf c (byAges c p) Refr ≡ true
-    unfolding legalOf requirements R14 allClosed
-    refr-ready closed x =
+    -- REFR and MRS: R2, all banks closed, and tRP
+    pub precharged-ready : allClosed (rowAt p) ≡ true → short c p anyPrecharge ≡ 0 → allHold (prechargedRules (byAges c p)) ≡ true
+    unfolding R14 allClosed
+    precharged-ready closed x =
         let open0 = isSome (rowAt p 0) in
         let open1 = isSome (rowAt p 1) in
         let open2 = isSome (rowAt p 2) in
@@ -289,3 +302,9 @@ module _ (c : Config) (p : Past) where
         split true true false t e = absurd (false≢true e)
         split true false z t e = absurd (false≢true e)
         split false y z t e = absurd (false≢true e)
+
+    pub refr-ready : allClosed (rowAt p) ≡ true → short c p anyPrecharge ≡ 0 → cycleHeld c p ≡ 0 → legalOf c (byAges c p) Refr ≡ true
+    refr-ready closed x y = refr-parts c (byAges c p) ∙ (precharged-ready closed x both R16-ready y)
+
+    pub mrs-ready : allClosed (rowAt p) ≡ true → short c p anyPrecharge ≡ 0 → legalOf c (byAges c p) (Mrs (modeWord c)) ≡ true
+    mrs-ready closed x = mrs-parts c (byAges c p) (modeWord c) ∙ (eq-eqb (modeWord c) (modeWord c) refl both precharged-ready closed x)
