@@ -13,7 +13,7 @@ use Rattle.address.specs.declared.Row.{Row}
 use Rattle.address.specs.declared.Cell.{Cell}
 use Rattle.address.proofs.Laws.{cell-within}
 use Rattle.command.specs.declared.Command.the-variants.{Nop, Act, Read, Pre, Deac}
-use Rattle.device.specs.View.{modeRegister, refreshCycle, anyPrecharge, marksOf, allClosed}
+use Rattle.device.specs.View.{modeRegister, refreshCycle, marksOf, allClosed}
 use Rattle.device.proofs.Tests.{if-both}
 use Rattle.ages.specs.declared.Past.{Past}
 use Rattle.ages.specs.Ages.{ageOf, rowAt, sentOf}
@@ -42,10 +42,10 @@ use Rattle.plan.specs.Plan.{Plan, quietly, tries, rest, transferPlan, readPlan,
 use Rattle.plan.proofs.Sound.{SoundAction}
 use Rattle.soundness.proofs.Plans.{Served, performedOf, servedOf, sending, performed-both, rest-only}
 use Rattle.theorem.proofs.Invariant.{leftOf, Settled}
-use Rattle.theorem.proofs.Timing.Distances.{short-falls, all-falls, cycle-falls}
+use Rattle.theorem.proofs.Timing.Distances.{refr-falls, refresh-falls, refresh-some}
 use Rattle.theorem.proofs.Timing.Actions.{queueLeft, act-advances, bank-four}
 use Rattle.progress.specs.Progress.{choiceWithin}
-use Rattle.progress.proofs.Distances.{gap, R2Kept, gap-falls, gap-ready, ready-gap, legal-r2, gap-most, short-most, all-most, cycle-most, access-most, access-waits}
+use Rattle.progress.proofs.Distances.{gap, R2Kept, gap-falls, gap-ready, ready-gap, legal-r2, gap-most, refr-most, refresh-most, access-most, access-waits}
 
 -- does the action wait for a command of its own?
 abbrev pub sends : Action → Bool
@@ -166,10 +166,10 @@ module _ {c : Config} (ok : Accepted c) (p : Past) (q : Queue) where
     held Turnaround g i bus = rest-only c p (Nearer Turnaround) Idle (record { by = omega arith })
     held PrechargeAll g i bus =
         rw (put-off (tries Deac PrechargeAll Refresh) (λ z. z))
-        (record { by = let f = all-falls ok p in omega (arith, gap-less, cycle-falls ok p Nop (λ b. refl) .by) })
+        (record { by = omega (arith, gap-less, refresh-falls ok p, refresh-some ok p) })
     held Refresh g i bus =
         rw (put-off (refreshPlan c) (λ z. z))
-        (record { by = let f = short-falls ok p Nop anyPrecharge tt refl in omega (arith, gap-less, cycle-falls ok p Nop (λ b. refl) .by) })
+        (record { by = omega (arith, gap-less, refr-falls ok p Nop refl (λ b. refl) .by) })
     held (RefreshCycle left) g i bus =
         if-both (λ next. Nearer (RefreshCycle left) (performedOf c p (rest next))) (leb (left - 1) 0)
         (λ e. rest-only c p (Nearer (RefreshCycle left)) Idle (record { by = omega (arith, g .sound .1) }))
@@ -196,6 +196,6 @@ module _ {c : Config} (ok : Accepted c) (p : Past) (q : Queue) where
   wait-most (Access i) g = omega (arith, gap-most ok p, access-most ok p (getOf q i .kind) (cellFor (c .geometry) (getOf q i)))
   wait-most (CasLatency i left) g = omega (arith, g .sound .3, ok .access-span)
   wait-most Turnaround g = omega (arith, ok .access-span)
-  wait-most PrechargeAll g = omega (arith, gap-most ok p, all-most ok p, cycle-most ok p, ok .refresh-span)
-  wait-most Refresh g = omega (arith, gap-most ok p, short-most ok p anyPrecharge, cycle-most ok p, ok .refresh-span)
+  wait-most PrechargeAll g = omega (arith, gap-most ok p, refresh-most ok p, ok .refresh-span)
+  wait-most Refresh g = omega (arith, gap-most ok p, refr-most ok p, ok .refresh-span)
   wait-most (RefreshCycle left) g = omega (arith, g .sound .2, ok .refresh-span)

@@ -13,7 +13,7 @@ use lib.ListN.{length}
 use borrow.Author.Tests.{eq-eqb, ne-eqb}
 use Rattle.config.specs.declared.Config.{Config}
 use Rattle.config.specs.Accepted.{Accepted}
-use Rattle.device.specs.View.{anyPrecharge, allClosed}
+use Rattle.device.specs.View.{allClosed}
 use Rattle.device.proofs.Tests.{by-test, if-both}
 use Rattle.ages.specs.declared.Past.{Past}
 use Rattle.ages.specs.Ages.{rowAt}
@@ -52,7 +52,7 @@ use Rattle.sequencer.specs.Machine.{stepOf}
 use Rattle.sequencer.specs.Calls.{recordNumberOf, slotOf}
 use Rattle.sequencer.proofs.Sound.{step-serves}
 use Rattle.model.specs.World.{backlog}
-use Rattle.theorem.proofs.Invariant.{short, allHeld, cycleHeld}
+use Rattle.theorem.proofs.Invariant.{refrHeld, refreshHeld}
 use Rattle.theorem.proofs.Plans.{countersOf, chosenOf, actedOf, afterOf, step-is}
 use Rattle.progress.specs.Progress.{
   refreshChosen,
@@ -60,7 +60,7 @@ use Rattle.progress.specs.Progress.{
   refreshedNext,
   worksOff,
 }
-use Rattle.progress.proofs.Distances.{gap, gap-most, short-most, all-most, cycle-most}
+use Rattle.progress.proofs.Distances.{gap, gap-most, refr-most, refresh-most}
 use Rattle.progress.proofs.Refresh.{owedLeft, Due, enough, all-closed, under, Works, works, choice-works, chooses-refresh, empty-stays}
 use Rattle.progress.proofs.Machine.{step-config, Live, live, slot-is, step-live, goes-on}
 
@@ -346,28 +346,28 @@ owing-most {m} q =
     let fewer : b - 1 ≤ 14 = omega arith in
     by-action (m .control .action) (q .service) (q .alive .facts .action)
     (mul-le-mul-right (m .config .refresh) top) (mul-le-mul-right (m .config .refresh) fewer)
-    (gap-most ok p) (all-most ok p) (cycle-most ok p) (short-most ok p anyPrecharge) (ok .refresh-span) (ok .rfc-least)
+    (gap-most ok p) (refresh-most ok p) (refr-most ok p) (ok .refresh-span) (ok .rfc-least)
   where
     by-action : (a : Action) → inService a ≡ true → SoundAction (m .config) (m .past .programmed) (allClosed (rowAt (m .past))) (m .queue .count) a
         → m .counters .backlog * m .config .refresh ≤ 15 * m .config .refresh
         → (m .counters .backlog - 1) * m .config .refresh ≤ 14 * m .config .refresh
-        → gap (m .config) (m .past) < m .config .refresh → allHeld (m .config) (m .past) ≤ max (m .config .ras) (m .config .wr)
-        → cycleHeld (m .config) (m .past) ≤ m .config .rc
-        → short (m .config) (m .past) anyPrecharge ≤ m .config .rp
+        → gap (m .config) (m .past) < m .config .refresh
+        → refreshHeld (m .config) (m .past) ≤ max (max (m .config .ras) (m .config .wr) + m .config .rp) (m .config .rc)
+        → refrHeld (m .config) (m .past) ≤ max (m .config .rp) (m .config .rc)
         → m .config .refresh ≡ max (max (m .config .ras) (m .config .wr) + m .config .rp) (m .config .rc) + m .config .rfc → 1 ≤ m .config .rfc
         → owedLeft (m .config) (m .past) a (m .counters .backlog) ≤ 16 * m .config .refresh
-    by-action (PowerUp n) e s u v g h t i f r = omega arith
-    by-action InitPrecharge e s u v g h t i f r = omega arith
-    by-action (InitRefresh n) e s u v g h t i f r = omega arith
-    by-action InitMode e s u v g h t i f r = omega arith
-    by-action InitSettle e s u v g h t i f r = omega arith
-    by-action Idle e s u v g h t i f r = omega arith
-    by-action (Access k) e s u v g h t i f r = omega arith
-    by-action (CasLatency k left) e s u v g h t i f r = omega arith
-    by-action Turnaround e s u v g h t i f r = omega arith
-    by-action PrechargeAll e s u v g h t i f r = omega arith
-    by-action Refresh e s u v g h t i f r = omega arith
-    by-action (RefreshCycle left) e s u v g h t i f r = omega (arith, s .2)
+    by-action (PowerUp n) e s u v g h i f r = omega arith
+    by-action InitPrecharge e s u v g h i f r = omega arith
+    by-action (InitRefresh n) e s u v g h i f r = omega arith
+    by-action InitMode e s u v g h i f r = omega arith
+    by-action InitSettle e s u v g h i f r = omega arith
+    by-action Idle e s u v g h i f r = omega arith
+    by-action (Access k) e s u v g h i f r = omega arith
+    by-action (CasLatency k left) e s u v g h i f r = omega arith
+    by-action Turnaround e s u v g h i f r = omega arith
+    by-action PrechargeAll e s u v g h i f r = omega arith
+    by-action Refresh e s u v g h i f r = omega arith
+    by-action (RefreshCycle left) e s u v g h i f r = omega (arith, s .2)
 
 pub works-off : (m : Machine) → recordNumberOf m ≡ 0 → inService (m .control .action) ≡ true → m .queue .count ≡ 0 → refreshedNext m ≡ true → (buses : List ℕ)
     → workedOffWithin (m .config) ≤ length buses → worksOff m buses ≡ true

@@ -1,6 +1,6 @@
 -- What is left of the distances in any record: a NOP takes one from each, none is more than its whole length, and no command but NOP is legal before R2
 -- is kept.
-use Prim.Native.Nat.{ℕ, _≤_, _<_, max}
+use Prim.Native.Nat.{ℕ, _+_, _≤_, _<_, max}
 use mathlib.Core.Path.{_≡_, refl}
 use mathlib.Core.Bool.{Bool, true, false, cond, _&&_}
 use mathlib.Core.Option.{Option, none, some}
@@ -18,6 +18,7 @@ use Rattle.device.specs.View.{
   refreshCycle,
   modeRegister,
   readToWrite,
+  anyPrecharge,
   rowPrecharge,
   rowCycle,
   rowToRow,
@@ -40,6 +41,8 @@ use Rattle.theorem.proofs.Invariant.{
   openHeld,
   allHeld,
   cycleHeld,
+  refrHeld,
+  refreshHeld,
   otherHeld,
   othersHeld,
   transferLeft,
@@ -119,13 +122,21 @@ module _ {c : Config} (ok : Accepted c) (p : Past) where
   unfolding openHeld
   open-most b = if-both (λ x. x ≤ max (c .ras) (c .wr)) (isSome (rowAt p b)) (λ e. bank-most b) (λ e. omega arith)
 
-  pub all-most : allHeld c p ≤ max (c .ras) (c .wr)
+  all-most : allHeld c p ≤ max (c .ras) (c .wr)
   unfolding allHeld
   all-most = omega (arith, open-most 0, open-most 1, open-most 2, open-most 3)
 
-  pub cycle-most : cycleHeld c p ≤ c .rc
+  cycle-most : cycleHeld c p ≤ c .rc
   unfolding cycleHeld
   cycle-most = omega (arith, short-most (rowCycle 0), short-most (rowCycle 1), short-most (rowCycle 2), short-most (rowCycle 3))
+
+  pub refr-most : refrHeld c p ≤ max (c .rp) (c .rc)
+  unfolding refrHeld
+  refr-most = omega (arith, short-most anyPrecharge, cycle-most)
+
+  pub refresh-most : refreshHeld c p ≤ max (max (c .ras) (c .wr) + c .rp) (c .rc)
+  unfolding refreshHeld
+  refresh-most = omega (arith, all-most, cycle-most)
 
   other-most : (b o : ℕ) → otherHeld c p b o ≤ c .rrd
   unfolding otherHeld

@@ -11,7 +11,7 @@ use borrow.Author.Tests.{leb-false}
 use Rattle.config.specs.declared.Config.{Config}
 use Rattle.config.specs.Accepted.{Accepted}
 use Rattle.command.specs.declared.Command.the-variants.{Nop, Deac, Refr}
-use Rattle.device.specs.View.{anyPrecharge, allClosed}
+use Rattle.device.specs.View.{allClosed}
 use Rattle.device.proofs.Tests.{if-both}
 use Rattle.ages.specs.declared.Past.{Past}
 use Rattle.ages.specs.Ages.{rowAt, sentOf}
@@ -48,12 +48,12 @@ use Rattle.plan.specs.Choice.{needs, idleRefresh, rulesOf, choiceOf}
 use Rattle.plan.proofs.Sound.{SoundAction}
 use Rattle.soundness.proofs.Past.{nop-closed, refr-closed, deac-closed}
 use Rattle.soundness.proofs.Plans.{Served, performedOf, servedOf, sending, performed-both, rest-only}
-use Rattle.theorem.proofs.Invariant.{short, allHeld, cycleHeld}
-use Rattle.theorem.proofs.Timing.Distances.{all-falls, deac-ready, refr-ready}
+use Rattle.theorem.proofs.Invariant.{allHeld, refrHeld, refreshHeld}
+use Rattle.theorem.proofs.Timing.Distances.{refresh-falls, refresh-some, deac-falls, deac-ready, refr-ready}
 use Rattle.theorem.proofs.Timing.Actions.{waits}
 use Rattle.progress.specs.Progress.{refreshChosen}
-use Rattle.progress.proofs.Distances.{gap, gap-ready, legal-r2, all-most, cycle-most}
-use Rattle.progress.proofs.Start.{gap-nop, close-nop, cycle-nop, gap-deac, close-deac, cycle-deac, gap-refr}
+use Rattle.progress.proofs.Distances.{gap, gap-ready, legal-r2, refresh-most}
+use Rattle.progress.proofs.Start.{gap-nop, refr-nop, gap-deac, gap-refr}
 
 -- a bound on the slots until b refreshes that are owed have been made, each of F slots at most
 abbrev pub owedLeft : Config → Past → Action → ℕ → ℕ
@@ -66,8 +66,8 @@ owedLeft c p Idle b = gap c p + b * c .refresh
 owedLeft c p (Access i) b = 0
 owedLeft c p (CasLatency i left) b = 0
 owedLeft c p Turnaround b = max 1 (gap c p) + b * c .refresh
-owedLeft c p PrechargeAll b = gap c p + max (allHeld c p + c .rp) (cycleHeld c p) + c .rfc + (b - 1) * c .refresh
-owedLeft c p Refresh b = gap c p + max (short c p anyPrecharge) (cycleHeld c p) + c .rfc + (b - 1) * c .refresh
+owedLeft c p PrechargeAll b = gap c p + refreshHeld c p + c .rfc + (b - 1) * c .refresh
+owedLeft c p Refresh b = gap c p + refrHeld c p + c .rfc + (b - 1) * c .refresh
 owedLeft c p (RefreshCycle left) b = max left (gap c p) + b * c .refresh
 
 -- the backlog is refreshed with nothing queued
@@ -114,10 +114,10 @@ module _ {c : Config} (ok : Accepted c) (p : Past) (n : Counters) where
       performed-both c p (Works PrechargeAll) (tries Deac PrechargeAll Refresh)
       (λ e.
       let z : gap c p ≡ 0 = legal-r2 c p Deac e in
-      record { by = omega (arith, gap-deac ok p, close-deac ok p, cycle-deac ok p, ok .rp-least); due = λ d. all-closed (deac-closed p) })
+      record { by = omega (arith, gap-deac ok p, deac-falls ok p); due = λ d. all-closed (deac-closed p) })
       (λ e.
       let w : 1 ≤ gap c p + allHeld c p = waits (gap c p + allHeld c p) (λ z. deac-ready c p (gap-ready c p (omega arith)) (omega arith)) e in
-      record { by = omega (arith, gap-nop ok p, all-falls ok p .by, cycle-nop ok p); due = λ d. under refl })
+      record { by = omega (arith, gap-nop ok p, refresh-falls ok p, refresh-some ok p); due = λ d. under refl })
 
   refresh : allClosed (rowAt p) ≡ true → Works Refresh (performedOf c p (refreshPlan c))
   unfolding refreshPlan quietly countersAfter cycleLeft
@@ -130,9 +130,8 @@ module _ {c : Config} (ok : Accepted c) (p : Past) (n : Counters) where
       (λ l. record { by = omega (arith, ok .rfc-least); due = λ d. all-closed (refr-closed p ∙ h) })
       (λ l. record { by = omega (arith, ok .rfc-least); due = λ d. all-closed (refr-closed p ∙ h) }))
       (λ e.
-      let w : 1 ≤ gap c p + max (short c p anyPrecharge) (cycleHeld c p)
-      = waits _ (λ z. refr-ready c p (gap-ready c p (omega arith)) h (omega arith) (omega arith)) e in
-      record { by = omega (arith, gap-nop ok p, close-nop ok p, cycle-nop ok p); due = λ d. all-closed (nop-closed p ∙ h) })
+      let w : 1 ≤ gap c p + refrHeld c p = waits (gap c p + refrHeld c p) (λ z. refr-ready c p (gap-ready c p (omega arith)) h (omega arith)) e in
+      record { by = omega (arith, gap-nop ok p, refr-nop ok p); due = λ d. all-closed (nop-closed p ∙ h) })
     where
       sent-as : Action → Served
       sent-as a = sending p Refr (record { action = a; report = Report.Nothing; leaves = false; refreshes = true })
@@ -159,7 +158,7 @@ module _ {c : Config} (ok : Accepted c) (p : Past) (n : Counters) where
   choice-works h =
       let e : n .backlog ≡ suc (n .backlog - 1) = omega arith in
       let f : n .backlog * c .refresh ≡ (n .backlog - 1) * c .refresh + c .refresh = ap (λ x. x * c .refresh) e ∙ suc-mul (n .backlog - 1) (c .refresh) in
-      omega (arith, all-most ok p, cycle-most ok p, ok .refresh-span)
+      omega (arith, refresh-most ok p, ok .refresh-span)
 
 -- The choice with nothing queued.
 

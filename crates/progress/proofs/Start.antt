@@ -34,18 +34,18 @@ use Rattle.plan.specs.Plan.{quietly, tries, rest, afterPause, afterInitRefresh,
 use Rattle.plan.proofs.Sound.{SoundAction}
 use Rattle.soundness.proofs.Plans.{Served, performedOf, servedOf, performed-both, rest-only}
 use Rattle.model.specs.Condition.{firstService}
-use Rattle.theorem.proofs.Invariant.{short, allHeld, cycleHeld}
-use Rattle.theorem.proofs.Timing.Distances.{short-falls, short-new, all-falls, cycle-falls, deac-ready, refr-ready, mrs-ready}
+use Rattle.theorem.proofs.Invariant.{short, allHeld, refrHeld, refreshHeld}
+use Rattle.theorem.proofs.Timing.Distances.{short-falls, short-new, refr-falls, refresh-falls, refresh-some, deac-falls, deac-ready, refr-ready, mrs-ready}
 use Rattle.theorem.proofs.Timing.Actions.{waits}
 use Rattle.theorem.proofs.Start.{one-less}
 use Rattle.progress.specs.Progress.{startWithin}
-use Rattle.progress.proofs.Distances.{gap, gap-falls, gap-ready, legal-r2, gap-most, short-most, all-most, cycle-most}
+use Rattle.progress.proofs.Distances.{gap, gap-falls, gap-ready, legal-r2, gap-most, short-most, refr-most, refresh-most}
 
 -- a bound on the slots before the first service slot
 abbrev pub startLeft : Config → Past → Action → ℕ
-startLeft c p (PowerUp n) = max (n + c .rp) (gap c p + max (allHeld c p + c .rp) (cycleHeld c p)) + 8 * c .rfc + 2
-startLeft c p InitPrecharge = gap c p + max (allHeld c p + c .rp) (cycleHeld c p) + 8 * c .rfc + 2
-startLeft c p (InitRefresh n) = gap c p + max (short c p anyPrecharge) (cycleHeld c p) + n * c .rfc + 2
+startLeft c p (PowerUp n) = max (n + c .rp) (gap c p + refreshHeld c p) + 8 * c .rfc + 2
+startLeft c p InitPrecharge = gap c p + refreshHeld c p + 8 * c .rfc + 2
+startLeft c p (InitRefresh n) = gap c p + refrHeld c p + n * c .rfc + 2
 startLeft c p InitMode = gap c p + short c p anyPrecharge + 2
 startLeft c p InitSettle = 1
 startLeft c p Idle = 0
@@ -101,9 +101,9 @@ module _ {c : Config} (ok : Accepted c) (p : Past) where
   unfolding marksOf
   close-nop = short-falls ok p Nop anyPrecharge tt refl .by
 
-  pub cycle-nop : cycleHeld c (sentOf p Nop) ≤ cycleHeld c p - 1
+  pub refr-nop : refrHeld c (sentOf p Nop) ≤ refrHeld c p - 1
   unfolding marksOf
-  cycle-nop = cycle-falls ok p Nop (λ b. refl) .by
+  refr-nop = refr-falls ok p Nop refl (λ b. refl) .by
 
   pub gap-deac : gap c (sentOf p Deac) ≤ gap c p - 1
   unfolding marksOf
@@ -112,10 +112,6 @@ module _ {c : Config} (ok : Accepted c) (p : Past) where
   pub close-deac : short c (sentOf p Deac) anyPrecharge ≡ c .rp - 1
   unfolding marksOf
   close-deac = short-new c p Deac anyPrecharge tt refl
-
-  pub cycle-deac : cycleHeld c (sentOf p Deac) ≤ cycleHeld c p - 1
-  unfolding marksOf
-  cycle-deac = cycle-falls ok p Deac (λ b. refl) .by
 
   pub gap-refr : gap c p ≡ 0 → gap c (sentOf p Refr) ≤ c .rfc - 1
   unfolding gap marksOf
@@ -128,9 +124,13 @@ module _ {c : Config} (ok : Accepted c) (p : Past) where
   unfolding marksOf
   close-refr = short-falls ok p Refr anyPrecharge tt refl .by
 
-  cycle-refr : cycleHeld c (sentOf p Refr) ≤ cycleHeld c p - 1
+  refr-refr : refrHeld c (sentOf p Refr) ≤ refrHeld c p - 1
   unfolding marksOf
-  cycle-refr = cycle-falls ok p Refr (λ b. refl) .by
+  refr-refr = refr-falls ok p Refr refl (λ b. refl) .by
+
+  closed-first : short c p anyPrecharge ≤ refrHeld c p
+  unfolding refrHeld
+  closed-first = omega arith
 
   pause : (n : ℕ) → 1 ≤ n → Sooner (PowerUp n) (performedOf c p (rest (afterPause n)))
   unfolding afterPause quietly
@@ -138,10 +138,10 @@ module _ {c : Config} (ok : Accepted c) (p : Past) where
       if-both (λ a. Sooner (PowerUp n) (performedOf c p (rest a))) (leb n 1)
       (λ e.
       let x = leb-true n 1 e in
-      rest-only c p (Sooner (PowerUp n)) InitPrecharge (record { by = omega (arith, gap-nop, all-falls ok p .by, cycle-nop) }))
+      rest-only c p (Sooner (PowerUp n)) InitPrecharge (record { by = omega (arith, gap-nop, refresh-falls ok p, refresh-some ok p) }))
       (λ e.
       let x = leb-false n 1 e in
-      rest-only c p (Sooner (PowerUp n)) (PowerUp (n - 1)) (record { by = omega (arith, gap-nop, all-falls ok p .by, cycle-nop) }))
+      rest-only c p (Sooner (PowerUp n)) (PowerUp (n - 1)) (record { by = omega (arith, gap-nop, refresh-falls ok p, refresh-some ok p) }))
 
   precharge : Sooner InitPrecharge (performedOf c p (tries Deac InitPrecharge (InitRefresh 8)))
   unfolding tries quietly
@@ -149,10 +149,10 @@ module _ {c : Config} (ok : Accepted c) (p : Past) where
       performed-both c p (Sooner InitPrecharge) (tries Deac InitPrecharge (InitRefresh 8))
       (λ e.
       let z : gap c p ≡ 0 = legal-r2 c p Deac e in
-      record { by = omega (arith, gap-deac, close-deac, cycle-deac, ok .rp-least) })
+      record { by = omega (arith, gap-deac, deac-falls ok p) })
       (λ e.
       let w : 1 ≤ gap c p + allHeld c p = waits (gap c p + allHeld c p) (λ z. deac-ready c p (gap-ready c p (omega arith)) (omega arith)) e in
-      record { by = omega (arith, gap-nop, all-falls ok p .by, cycle-nop) })
+      record { by = omega (arith, gap-nop, refresh-falls ok p, refresh-some ok p) })
 
   refreshes : (n : ℕ) → Sound (InitRefresh n) → Sooner (InitRefresh n) (performedOf c p (tries Refr (InitRefresh n) (afterInitRefresh n)))
   unfolding tries quietly afterInitRefresh
@@ -162,12 +162,11 @@ module _ {c : Config} (ok : Accepted c) (p : Past) where
       (λ e.
       let g = gap-refr (legal-r2 c p Refr e) in
       if-both (λ a. Sooner (InitRefresh n) (sent-as a)) (leb n 1)
-      (λ l. record { by = omega (arith, close-refr, each, ok .rfc-least) })
-      (λ l. record { by = omega (arith, close-refr, cycle-refr, each, ok .rfc-least) }))
+      (λ l. record { by = omega (arith, close-refr, closed-first, each, ok .rfc-least) })
+      (λ l. record { by = omega (arith, refr-refr, each, ok .rfc-least) }))
       (λ e.
-      let w : 1 ≤ gap c p + max (short c p anyPrecharge) (cycleHeld c p)
-      = waits _ (λ z. refr-ready c p (gap-ready c p (omega arith)) (s .0) (omega arith) (omega arith)) e in
-      record { by = omega (arith, gap-nop, close-nop, cycle-nop) })
+      let w : 1 ≤ gap c p + refrHeld c p = waits (gap c p + refrHeld c p) (λ z. refr-ready c p (gap-ready c p (omega arith)) (s .0) (omega arith)) e in
+      record { by = omega (arith, gap-nop, refr-nop) })
     where
       sent-as : Action → Served
       sent-as a = record { past = sentOf p Refr; command = Refr; outcome = quietly a }
@@ -202,10 +201,10 @@ module _ {c : Config} (ok : Accepted c) (p : Past) where
   -- The bound.
   pub start-most : (a : Action) (count : ℕ) → SoundAction c (p .programmed) (allClosed (rowAt p)) count a → startLeft c p a ≤ startWithin c
   unfolding startWithin firstService
-  start-most (PowerUp n) count s = omega (arith, s .1, gap-most ok p, all-most ok p, cycle-most ok p, ok .long-enough, ok .access-span)
-  start-most InitPrecharge count s = omega (arith, gap-most ok p, all-most ok p, cycle-most ok p, ok .long-enough, ok .access-span)
+  start-most (PowerUp n) count s = omega (arith, s .1, gap-most ok p, refresh-most ok p, ok .long-enough, ok .refresh-span)
+  start-most InitPrecharge count s = omega (arith, gap-most ok p, refresh-most ok p, ok .long-enough, ok .refresh-span)
   start-most (InitRefresh n) count s =
-      omega (arith, mul-le-mul-right (c .rfc) (s .2), gap-most ok p, short-most ok p anyPrecharge, cycle-most ok p, ok .long-enough, ok .access-span)
+      omega (arith, mul-le-mul-right (c .rfc) (s .2), gap-most ok p, refr-most ok p, ok .long-enough, ok .access-span)
   start-most InitMode count s = omega (arith, gap-most ok p, short-most ok p anyPrecharge, ok .long-enough)
   start-most InitSettle count s = omega arith
   start-most Idle count s = omega arith

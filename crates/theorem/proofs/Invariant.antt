@@ -131,6 +131,13 @@ allHeld c p = max (max (openHeld c p 0) (openHeld c p 1)) (max (openHeld c p 2) 
 unfoldable pub cycleHeld : Config → Past → ℕ
 cycleHeld c p = max (max (short c p (rowCycle 0)) (short c p (rowCycle 1))) (max (short c p (rowCycle 2)) (short c p (rowCycle 3)))
 
+-- what keeps a refresh's REFR back: after its DEAC R15 and R16; before it, DEAC's wait and tRP, or R16
+unfoldable pub refrHeld : Config → Past → ℕ
+refrHeld c p = max (short c p anyPrecharge) (cycleHeld c p)
+
+unfoldable pub refreshHeld : Config → Past → ℕ
+refreshHeld c p = max (allHeld c p + c .rp) (cycleHeld c p)
+
 -- what R7 keeps an ACT of bank b back
 unfoldable pub otherHeld : Config → Past → ℕ → ℕ → ℕ
 otherHeld c p b other = cond (eqb other b) 0 (short c p (rowToRow other))
@@ -170,8 +177,8 @@ leftOf c p q Idle = 0
 leftOf c p q (Access i) = let r : Request = getOf q i in accessLeft c p (r .kind) (cellFor (c .geometry) r)
 leftOf c p q (CasLatency i left) = left + 1
 leftOf c p q Turnaround = 1
-leftOf c p q PrechargeAll = max (allHeld c p + c .rp) (cycleHeld c p) + c .rfc
-leftOf c p q Refresh = max (short c p anyPrecharge) (cycleHeld c p) + c .rfc
+leftOf c p q PrechargeAll = refreshHeld c p + c .rfc
+leftOf c p q Refresh = refrHeld c p + c .rfc
 leftOf c p q (RefreshCycle left) = left
 
 -- what a refresh owed now waits for besides: nothing if the action is that refresh, otherwise a whole refresh after the action

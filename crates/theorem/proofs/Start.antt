@@ -40,7 +40,7 @@ use Rattle.soundness.proofs.Past.{nop-closed, refr-closed, deac-closed}
 use Rattle.soundness.proofs.Plans.{Served, performedOf, servedOf, performed-both, rest-only}
 use Rattle.model.specs.Condition.{firstService}
 use Rattle.theorem.proofs.Timing.Actions.{older-sent}
-use Rattle.theorem.proofs.Invariant.{short, cycleHeld}
+use Rattle.theorem.proofs.Invariant.{short, cycleHeld, refrHeld}
 use Rattle.theorem.proofs.Timing.Distances.{Ready, cycle-falls, refr-ready, mrs-ready}
 
 -- the slot of the MRS
@@ -131,8 +131,8 @@ module _ (c : Config) (p : Past) (q : Closed c p) where
   ready a = record { cycle = a; mode = q .unset }
 
   refr-legal : c .rfc ≤ ageOf p refreshCycle → c .rp ≤ ageOf p anyPrecharge → legalOf c (byAges c p) Refr ≡ true
-  unfolding short
-  refr-legal a b = refr-ready c p (ready a) (q .closed) (omega arith) (q .cycled)
+  unfolding short refrHeld
+  refr-legal a b = refr-ready c p (ready a) (q .closed) (omega (arith, q .cycled))
 
   mrs-legal : c .rfc ≤ ageOf p refreshCycle → c .rp ≤ ageOf p anyPrecharge → legalOf c (byAges c p) (Mrs (modeWord c)) ≡ true
   unfolding short

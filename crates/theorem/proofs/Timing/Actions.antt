@@ -82,7 +82,8 @@ use Rattle.theorem.proofs.Invariant.{
   short,
   bankHeld,
   allHeld,
-  cycleHeld,
+  refrHeld,
+  refreshHeld,
   othersHeld,
   transferLeft,
   activateLeft,
@@ -102,12 +103,13 @@ use Rattle.theorem.proofs.Timing.Distances.{
   short-least,
   nop-row,
   bank-falls,
-  all-falls,
-  cycle-falls,
+  refr-falls,
+  refresh-falls,
+  refresh-some,
+  deac-falls,
   others-fall,
   bank-least,
-  all-least,
-  cycle-least,
+  refresh-least,
   others-least,
   act-ready,
   read-ready,
@@ -221,14 +223,11 @@ module _ {c : Config} (ok : Accepted c) (p : Past) (programmed : p .programmed �
   unfolding tries marksOf
   precharge-advances h =
       performed-both c p (Advanced c p q PrechargeAll n) (tries Deac PrechargeAll Refresh)
-      (λ e.
-      let new = short-new c p Deac anyPrecharge tt refl in
-      quiet-advances Deac Refresh refl refl (rested ok p Deac refl h, deac-closed p)
-      (omega (arith, cycle-falls ok p Deac (λ b. refl) .by, ok .rp-least)) (omega arith) (λ o. o))
+      (λ e. quiet-advances Deac Refresh refl refl (rested ok p Deac refl h, deac-closed p) (omega (arith, deac-falls ok p)) (omega arith) (λ o. o))
       (λ e.
       let w : 1 ≤ allHeld c p = waits (allHeld c p) (deac-ready c p (record { cycle = h; mode = mode })) e in
       quiet-advances Nop PrechargeAll refl refl (rested ok p Nop refl h)
-      (omega (arith, all-falls ok p .by, cycle-falls ok p Nop (λ b. refl) .by)) (omega arith) (λ o. o))
+      (omega (arith, refresh-falls ok p, refresh-some ok p)) (omega arith) (λ o. o))
 
   cycle-advances : (left : ℕ) → c .rfc ≤ ageOf p refreshCycle + left → 1 ≤ left → left < c .rfc
       → Advanced c p q (RefreshCycle left) n (performedOf c p (rest (cycleLeft (left - 1))))
@@ -279,11 +278,9 @@ module _ {c : Config} (ok : Accepted c) (p : Past) (programmed : p .programmed �
       performed-both c p (Advanced c p q Refresh n) (refreshPlan c)
       (λ e. sent-advances)
       (λ e.
-      let w : 1 ≤ max (short c p anyPrecharge) (cycleHeld c p)
-      = waits _ (λ z. refr-ready c p (record { cycle = h; mode = mode }) closed (omega arith) (omega arith)) e in
-      let f = short-falls ok p Nop anyPrecharge tt refl in
+      let w : 1 ≤ refrHeld c p = waits (refrHeld c p) (refr-ready c p (record { cycle = h; mode = mode }) closed) e in
       quiet-advances Nop Refresh refl refl (rested ok p Nop refl h, nop-closed p ∙ closed)
-      (omega (arith, cycle-falls ok p Nop (λ b. refl) .by)) (omega arith) (λ o. o))
+      (omega (arith, refr-falls ok p Nop refl (λ b. refl) .by)) (omega arith) (λ o. o))
 
   -- a read whose halfword is to come
   latency-advances : (i left bus : ℕ) → c .rfc ≤ ageOf p refreshCycle → 1 ≤ left → left ≤ c .latency
@@ -488,7 +485,7 @@ act-advances ok {p} programmed mode q (RefreshCycle left) s i n bus = cycle-adva
 -- What is left of an action at its choice.
 
 pub refresh-bound : {c : Config} → Accepted c → {p : Past} → Aged p → (q : Queue) → leftOf c p q PrechargeAll + 1 ≤ c .refresh
-refresh-bound ok aged q = omega (arith, all-least ok aged, cycle-least ok aged, ok .refresh-span)
+refresh-bound ok aged q = omega (arith, refresh-least ok aged, ok .refresh-span)
 
 module _ {c : Config} (ok : Accepted c) {p : Past} (aged : Aged p) (b : ℕ) (four : b < 4) where
   transfer-bound : (kind : Kind) → transferLeft c p kind b + 3 ≤ c .access

@@ -36,7 +36,7 @@ use Rattle.ages.specs.declared.Past.{Past}
 use Rattle.ages.specs.Ages.{cap, ageOf, rowAt, byAges, sentOf}
 use Rattle.ages.proofs.Slot.{Aged, sent-age, sent-row, reached, some-slots}
 use Rattle.plan.specs.Plan.{modeWord}
-use Rattle.theorem.proofs.Invariant.{short, bankHeld, openHeld, allHeld, cycleHeld, otherHeld, othersHeld}
+use Rattle.theorem.proofs.Invariant.{short, bankHeld, openHeld, allHeld, cycleHeld, refrHeld, refreshHeld, otherHeld, othersHeld}
 
 -- less by one, down to nothing
 pub record Falls (after before : ℕ) : Type 0 where
@@ -101,6 +101,24 @@ module _ {c : Config} (ok : Accepted c) (p : Past) where
       at : (b : ℕ) → b < 4 → Falls (short c (sentOf p k) (rowCycle b)) (short c p (rowCycle b))
       at b h = short-falls ok p k (rowCycle b) h (f b)
 
+  -- by every command but an ACT, a PRE and a DEAC
+  pub refr-falls : (k : Command) → starts anyPrecharge k ≡ false → ((b : ℕ) → starts (rowCycle b) k ≡ false) → Falls (refrHeld c (sentOf p k)) (refrHeld c p)
+  unfolding refrHeld
+  refr-falls k f g = max-falls (short-falls ok p k anyPrecharge tt f) (cycle-falls k g)
+
+  -- a DEAC that waits, with tRP to come in any case, and one that is sent
+  pub refresh-falls : refreshHeld c (sentOf p Nop) + 1 ≤ max (c .rp + 1) (refreshHeld c p)
+  unfolding refreshHeld marksOf
+  refresh-falls = omega (arith, all-falls .by, cycle-falls Nop (λ b. refl) .by)
+
+  pub deac-falls : refrHeld c (sentOf p Deac) + 1 ≤ refreshHeld c p
+  unfolding refrHeld refreshHeld marksOf
+  deac-falls = omega (arith, short-new c p Deac anyPrecharge tt refl, cycle-falls Deac (λ b. refl) .by, ok .rp-least)
+
+  pub refresh-some : allHeld c p + c .rp ≤ refreshHeld c p
+  unfolding refreshHeld
+  refresh-some = omega arith
+
   other-falls : (k : Command) (b o : ℕ) → o < 4 → starts (rowToRow o) k ≡ false → Falls (otherHeld c (sentOf p k) b o) (otherHeld c p b o)
   unfolding otherHeld
   other-falls k b o h f = go (eqb o b)
@@ -134,16 +152,20 @@ module _ {c : Config} (ok : Accepted c) {p : Past} (aged : Aged p) where
       go true = bank-least b h
       go false = omega (arith, ok .ras-least)
 
-  pub all-least : allHeld c p + 1 ≤ max (c .ras) (c .wr)
+  all-least : allHeld c p + 1 ≤ max (c .ras) (c .wr)
   unfolding allHeld
   all-least = omega (arith, open-least 0 (lit< tt), open-least 1 (lit< tt), open-least 2 (lit< tt), open-least 3 (lit< tt))
 
-  pub cycle-least : cycleHeld c p + 1 ≤ c .rc
+  cycle-least : cycleHeld c p + 1 ≤ c .rc
   unfolding cycleHeld
   cycle-least = omega (arith, at 0 (lit< tt), at 1 (lit< tt), at 2 (lit< tt), at 3 (lit< tt))
     where
       at : (b : ℕ) → b < 4 → short c p (rowCycle b) + 1 ≤ c .rc
       at b h = short-least ok aged (rowCycle b) h
+
+  pub refresh-least : refreshHeld c p + 1 ≤ max (max (c .ras) (c .wr) + c .rp) (c .rc)
+  unfolding refreshHeld
+  refresh-least = omega (arith, all-least, cycle-least)
 
   other-least : (b o : ℕ) → o < 4 → otherHeld c p b o + 1 ≤ c .rrd
   unfolding otherHeld
@@ -303,8 +325,9 @@ module _ (c : Config) (p : Past) where
         split true false z t e = absurd (false≢true e)
         split false y z t e = absurd (false≢true e)
 
-    pub refr-ready : allClosed (rowAt p) ≡ true → short c p anyPrecharge ≡ 0 → cycleHeld c p ≡ 0 → legalOf c (byAges c p) Refr ≡ true
-    refr-ready closed x y = refr-parts c (byAges c p) ∙ (precharged-ready closed x both R16-ready y)
+    pub refr-ready : allClosed (rowAt p) ≡ true → refrHeld c p ≡ 0 → legalOf c (byAges c p) Refr ≡ true
+    unfolding refrHeld
+    refr-ready closed x = refr-parts c (byAges c p) ∙ (precharged-ready closed (omega arith) both R16-ready (omega arith))
 
     pub mrs-ready : allClosed (rowAt p) ≡ true → short c p anyPrecharge ≡ 0 → legalOf c (byAges c p) (Mrs (modeWord c)) ≡ true
     mrs-ready closed x = mrs-parts c (byAges c p) (modeWord c) ∙ (eq-eqb (modeWord c) (modeWord c) refl both precharged-ready closed x)
