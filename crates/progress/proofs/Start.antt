@@ -1,6 +1,6 @@
 -- The initialisation ends: each slot takes one at least from a bound on the slots that it still takes, for every sound record.
 use Prim.Native.Nat.{ℕ, _+_, _-_, _*_, _≤_, max}
-use mathlib.Core.Path.{_≡_, refl, sym, _∙_}
+use mathlib.Core.Path.{_≡_, refl, sym}
 use mathlib.Core.Bool.{true, false, true≢false}
 use native.Mathlib.Omega.{arith}
 use native.Mathlib.Nat.{mul-le-mul-right}
@@ -97,7 +97,7 @@ module _ {c : Config} (ok : Accepted c) (p : Past) where
   unfolding marksOf
   gap-nop = gap-falls ok p Nop refl refl .by
 
-  pub close-nop : short c (sentOf p Nop) anyPrecharge ≤ short c p anyPrecharge - 1
+  close-nop : short c (sentOf p Nop) anyPrecharge ≤ short c p anyPrecharge - 1
   unfolding marksOf
   close-nop = short-falls ok p Nop anyPrecharge tt refl .by
 
@@ -108,10 +108,6 @@ module _ {c : Config} (ok : Accepted c) (p : Past) where
   pub gap-deac : gap c (sentOf p Deac) ≤ gap c p - 1
   unfolding marksOf
   gap-deac = gap-falls ok p Deac refl refl .by
-
-  pub close-deac : short c (sentOf p Deac) anyPrecharge ≡ c .rp - 1
-  unfolding marksOf
-  close-deac = short-new c p Deac anyPrecharge tt refl
 
   pub gap-refr : gap c p ≡ 0 → gap c (sentOf p Refr) ≤ c .rfc - 1
   unfolding gap marksOf

@@ -88,7 +88,7 @@ module _ {c : Config} (ok : Accepted c) (p : Past) where
   unfolding openHeld marksOf
   open-falls b h = rw (nop-row p b h) (cond-falls (isSome (rowAt p b)) (bank-falls Nop b h refl refl))
 
-  pub all-falls : Falls (allHeld c (sentOf p Nop)) (allHeld c p)
+  all-falls : Falls (allHeld c (sentOf p Nop)) (allHeld c p)
   unfolding allHeld
   all-falls =
       max-falls (max-falls (open-falls 0 (lit< tt)) (open-falls 1 (lit< tt))) (max-falls (open-falls 2 (lit< tt)) (open-falls 3 (lit< tt)))
@@ -301,7 +301,7 @@ module _ (c : Config) (p : Past) where
         both refl
 
     -- REFR and MRS: R2, all banks closed, and tRP
-    pub precharged-ready : allClosed (rowAt p) ≡ true → short c p anyPrecharge ≡ 0 → allHold (prechargedRules (byAges c p)) ≡ true
+    precharged-ready : allClosed (rowAt p) ≡ true → short c p anyPrecharge ≡ 0 → allHold (prechargedRules (byAges c p)) ≡ true
     unfolding R14 allClosed
     precharged-ready closed x =
         let open0 = isSome (rowAt p 0) in
