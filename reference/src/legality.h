@@ -1,4 +1,4 @@
-/* Document 01, "Commands and their distances": R1 to R16 over the list of past commands. */
+/* Document 01, "Commands and their distances", and R16 of document 02: the rules over the list of past commands. */
 #ifndef LEGALITY_H
 #define LEGALITY_H
 

@@ -1,10 +1,9 @@
 -- Two views of the past that no rule tells apart: they agree on the banks that a device can have.
-use Prim.Native.Nat.{ℕ, suc, _*_, _^_, _<_}
+use Prim.Native.Nat.{ℕ, suc, _^_, _<_}
 use mathlib.Core.Path.{_≡_, refl}
-use mathlib.Core.Bool.{Bool, true, false, _&&_}
-use mathlib.Core.List.{List, [], _∷_, _++_}
+use mathlib.Core.Bool.{true}
 use native.Mathlib.Omega.{arith}
-use lib.Dec.{eqb, lit<}
+use lib.Dec.{lit<}
 use lib.Pow.{pow-mono}
 use borrow.Author.Tests.{leb-true}
 use Rattle.config.specs.declared.Config.{Config}
@@ -26,29 +25,9 @@ use Rattle.device.specs.View.{
   writeRecovery,
   allClosed,
 }
-use Rattle.device.specs.Rules.{Requirement, allHold, R1-bank, R2, R7, R12-open, R13-open, R14, R15, R16, requirements, legalOf}
+use Rattle.device.specs.Rules.{allHold, R1-bank, R7, R12-open, R13-open, R16, requirements, legalOf, prechargedOf}
 use Rattle.device.proofs.Tests.{by-test}
-
--- two lists of requirements hold together where each does
-pub hold-append : (xs ys : List Requirement) → allHold (xs ++ ys) ≡ (allHold xs && allHold ys)
-hold-append [] ys = refl
-hold-append (x ∷ xs) ys = go (hold-append xs ys) (x .holds)
-  where
-    go : allHold (xs ++ ys) ≡ (allHold xs && allHold ys) → (t : Bool) → (t && allHold (xs ++ ys)) ≡ ((t && allHold xs) && allHold ys)
-    go e true = e
-    go e false = refl
-
--- what REFR and MRS have in common: R2, R14 and R15. REFR has R16 besides, and MRS the word of R1
-abbrev pub prechargedRules : View → List Requirement
-prechargedRules v = R2 v ++ R14 v ++ R15 v ∷ []
-
-pub refr-parts : (c : Config) (v : View) → legalOf c v Refr ≡ (allHold (prechargedRules v) && allHold (R16 v))
-unfolding legalOf requirements R14
-refr-parts c v = hold-append (prechargedRules v) (R16 v)
-
-pub mrs-parts : (c : Config) (v : View) (w : ℕ) → legalOf c v (Mrs w) ≡ (eqb w (16 * c .latency) && allHold (prechargedRules v))
-unfolding legalOf requirements
-mrs-parts c v w = refl
+use Rattle.device.proofs.Parts.{refr-parts, mrs-parts}
 
 -- a distance of one of the banks that a device can have, or of none
 abbrev pub Known : Distance → Type 0
@@ -81,18 +60,9 @@ module _ {v w : View} (a : Alike v w) where
   unfolding R7
   R7-same b = rw (a .kept (rowToRow 0) (lit< tt), a .kept (rowToRow 1) (lit< tt), a .kept (rowToRow 2) (lit< tt), a .kept (rowToRow 3) (lit< tt))
 
-  precharged-same : allHold (prechargedRules v) ≡ allHold (prechargedRules w)
-  unfolding R14
-  precharged-same =
-      simp (
-        a .kept refreshCycle tt,
-        a .kept modeRegister tt,
-        a .row 0 (lit< tt),
-        a .row 1 (lit< tt),
-        a .row 2 (lit< tt),
-        a .row 3 (lit< tt),
-        a .kept anyPrecharge tt,
-      )
+  precharged-same : prechargedOf v ≡ prechargedOf w
+  unfolding prechargedOf
+  precharged-same = rw (a .kept refreshCycle tt, a .kept modeRegister tt, allClosed-same, a .kept anyPrecharge tt)
 
   R16-same : allHold (R16 v) ≡ allHold (R16 w)
   unfolding R16

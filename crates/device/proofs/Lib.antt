@@ -1,5 +1,6 @@
--- What no rule tells apart, that the last command is enough to measure from, and worked examples.
+-- Rules in parts, what no rule tells apart, that the last command is enough to measure from, and worked examples.
 pub mod Tests
+pub mod Parts
 pub mod Alike
 pub mod Every
 pub mod Examples

@@ -1,4 +1,4 @@
--- Document 01's marked examples, and some of our own where the paper's figures leave two things alike: what is asked, what the definitions
+-- Document 01's marked examples, and some of our own where the paper's figures leave two things alike or do not reach a rule: what is asked, what the definitions
 -- answer, and what is said.
 use Prim.Native.Nat.{ℕ, _-_}
 use mathlib.Core.Bool.{false}

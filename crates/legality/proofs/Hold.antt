@@ -10,14 +10,14 @@ use Rattle.address.specs.declared.Bank.{Bank}
 use Rattle.address.specs.declared.Row.{Row}
 use Rattle.address.specs.declared.Column.{Column}
 use Rattle.config.specs.declared.Config.{Config}
-use Rattle.command.specs.declared.Command.the-variants.{Act, Read, Wrt, Pre, Deac, Refr, Mrs}
+use Rattle.command.specs.declared.Command.the-variants.{Act, Read, Wrt, Pre, Deac}
 use Rattle.device.specs.View.{isSome, allClosed}
-use Rattle.device.specs.Rules.{R7, R10, R12-open, R13-open, R14, R16, allHold, requirements, legalOf}
-use Rattle.device.proofs.Alike.{hold-append, prechargedRules, refr-parts, mrs-parts}
+use Rattle.device.specs.Rules.{R7, R10, R12-open, R13-open, allHold, requirements, legalOf, prechargedOf}
+use Rattle.device.proofs.Parts.{hold-append}
 use Rattle.ages.specs.declared.Past.{Past}
 use Rattle.ages.proofs.Record.{open-here}
 use Rattle.ages.specs.Ages.{rowAt, byAges}
-use Rattle.legality.specs.Verdict.{settledOf, prechargedOf}
+use Rattle.legality.specs.Verdict.{settledOf}
 
 and-true : (t : Bool) → (t && true) ≡ t
 and-true true = refl
@@ -62,10 +62,6 @@ module _ (c : Config) (p : Past) where
   unfolding R13-open
   R13-is = rw (open-here (p .opened) (p .rows) 0 (lit< tt), open-here (p .opened) (p .rows) 1 (lit< tt), open-here (p .opened) (p .rows) 2 (lit< tt), open-here (p .opened) (p .rows) 3 (lit< tt))
 
-  R14-is : allHold (R14 (byAges c p)) ≡ allClosed (rowAt p)
-  unfolding R14 allClosed
-  R14-is = rw (and-true (not (isSome (rowAt p 3))))
-
   pub act-is : (b : Bank) (r : Row) → legalOf c (byAges c p) (Act b r)
       ≡ (ltb (b .0) (2 ^ (c .geometry .banks)) && (ltb (r .0) (2 ^ (c .geometry .rows)) && (settledOf c (p .ages) && (p .programmed
       && (not (isSome (rowAt p (b .0))) && (leb (c .rp) (getD (p .ages) (4 + b .0) 0) && (leb (c .rc) (getD (p .ages) (b .0) 0)
@@ -98,12 +94,6 @@ module _ (c : Config) (p : Past) where
   unfolding legalOf requirements
   deac-is = rw (settled-first, hold-append (R12-open (byAges c p)))
 
-  precharged-is : allHold (prechargedRules (byAges c p)) ≡ prechargedOf c (p .ages) (p .opened) (p .rows)
+  pub precharged-is : prechargedOf (byAges c p) ≡ (settledOf c (p .ages) && (allClosed (rowAt p) && leb (c .rp) (getD (p .ages) 10 0)))
   unfolding prechargedOf
-  precharged-is = rw (settled-first, hold-append (R14 (byAges c p)), R14-is, and-true (leb (c .rp) (getD (p .ages) 10 0)))
-
-  pub refr-is : legalOf c (byAges c p) Refr ≡ (prechargedOf c (p .ages) (p .opened) (p .rows) && allHold (R16 (byAges c p)))
-  refr-is = rw (refr-parts c (byAges c p), precharged-is)
-
-  pub mrs-is : (w : ℕ) → legalOf c (byAges c p) (Mrs w) ≡ (eqb w (16 * c .latency) && prechargedOf c (p .ages) (p .opened) (p .rows))
-  mrs-is w = rw (mrs-parts c (byAges c p) w, precharged-is)
+  precharged-is = settled-first (allClosed (rowAt p) && leb (c .rp) (getD (p .ages) 10 0))

@@ -7,9 +7,8 @@ use lib.Dec.{leb}
 use lib.ListN.{getD}
 use Rattle.config.specs.declared.Config.{Config}
 use Rattle.command.specs.declared.Command.{Command}
-use Rattle.device.specs.View.{allClosed}
 use Rattle.device.specs.Rules.{legalOf}
-use Rattle.ages.specs.Ages.{pastOf, openRows, byAges}
+use Rattle.ages.specs.Ages.{pastOf, byAges}
 
 -- The verdict on a command by the ages and the open flags: it is the rules', whatever rows are open, and whether or not the mode is set.
 abbrev pub Verdict : Config → List ℕ → List Bool → Command → Bool → Type 0
@@ -18,7 +17,3 @@ Verdict c ages opened k verdict = (rows : List ℕ) (programmed : Bool) → verd
 -- R2, as the code tests it: the last REFR and the last MRS are far enough back
 unfoldable pub settledOf : Config → List ℕ → Bool
 settledOf c ages = leb (c .rfc) (getD ages 8 0) && leb 2 (getD ages 9 0)
-
--- R2, R14 and R15, as the code tests them (all that MRS measures; REFR has R16 besides): all banks are closed, and the last PRE or DEAC is far enough back
-unfoldable pub prechargedOf : Config → List ℕ → List Bool → List ℕ → Bool
-prechargedOf c ages opened rows = settledOf c ages && (allClosed (openRows opened rows) && leb (c .rp) (getD ages 10 0))

@@ -11,9 +11,9 @@ ghost use mathlib.Core.List.{List};
 ghost use Prim.Native.Nat.{ℕ, _+_, _≤_, _^_};
 ghost use lib.Dec.{leb, ltb, eqb};
 ghost use Rattle.config.specs.Accepted.{Shaped};
-ghost use Rattle.device.specs.Rules.{allHold, R7, R12-open, R13-open, R16, legalOf};
+ghost use Rattle.device.specs.Rules.{allHold, R7, R12-open, R13-open, R16, legalOf, prechargedOf};
 ghost use Rattle.ages.specs.Ages.{pastOf, byAges};
-ghost use Rattle.legality.specs.Verdict.{Verdict, settledOf, prechargedOf};
+ghost use Rattle.legality.specs.Verdict.{Verdict, settledOf};
 
 // Is a number below 2 to the power of a width?
 fn inside(n: u16, width: u8) -> bool
@@ -115,7 +115,7 @@ fn all_written(c: Config, ages: &[u8; 16], opened: &[bool; 4]) -> bool
 
 // R2, R14 and R15, which REFR and MRS have in common: all banks are closed, and long enough.
 fn all_precharged(c: Config, ages: &[u8; 16], opened: &[bool; 4]) -> bool
-    ensures { λ r. ⌜ ((rows : List ℕ) → r ≡ prechargedOf c (now (ages .entry)) (now (opened .entry)) rows) ⌝ }
+    ensures { λ r. ⌜ ((rows : List ℕ) (programmed : Bool) → r ≡ prechargedOf (byAges c (pastOf (now (ages .entry)) (now (opened .entry)) rows programmed))) ⌝ }
 {
     if !settled(c, ages) {
         return false;
@@ -130,7 +130,7 @@ fn all_precharged(c: Config, ages: &[u8; 16], opened: &[bool; 4]) -> bool
 }
 
 // R16: tRC after every bank's ACT.
-fn all_cycled(c: Config, ages: &[u8; 16]) -> bool
+fn all_row_cycled(c: Config, ages: &[u8; 16]) -> bool
     ensures { λ r. ⌜ ((opened : List Bool) (rows : List ℕ) (programmed : Bool) → r ≡ allHold (R16 (byAges c (pastOf (now (ages .entry)) opened rows programmed)))) ⌝ }
 {
     if ages[0] < c.rc {
@@ -277,7 +277,7 @@ pub fn refr_legal(c: Config, ages: &[u8; 16], opened: &[bool; 4]) -> bool
     if !all_precharged(c, ages, opened) {
         return false;
     }
-    all_cycled(c, ages)
+    all_row_cycled(c, ages)
 }
 
 // MRS: R1, R2, R14, R15.

@@ -40,7 +40,7 @@ use Rattle.theorem.proofs.Invariant.{
   bankHeld,
   openHeld,
   allHeld,
-  cycleHeld,
+  rowCycleHeld,
   refrHeld,
   refreshHeld,
   otherHeld,
@@ -126,17 +126,17 @@ module _ {c : Config} (ok : Accepted c) (p : Past) where
   unfolding allHeld
   all-most = omega (arith, open-most 0, open-most 1, open-most 2, open-most 3)
 
-  cycle-most : cycleHeld c p ≤ c .rc
-  unfolding cycleHeld
-  cycle-most = omega (arith, short-most (rowCycle 0), short-most (rowCycle 1), short-most (rowCycle 2), short-most (rowCycle 3))
+  row-cycle-most : rowCycleHeld c p ≤ c .rc
+  unfolding rowCycleHeld
+  row-cycle-most = omega (arith, short-most (rowCycle 0), short-most (rowCycle 1), short-most (rowCycle 2), short-most (rowCycle 3))
 
   pub refr-most : refrHeld c p ≤ max (c .rp) (c .rc)
   unfolding refrHeld
-  refr-most = omega (arith, short-most anyPrecharge, cycle-most)
+  refr-most = omega (arith, short-most anyPrecharge, row-cycle-most)
 
   pub refresh-most : refreshHeld c p ≤ max (max (c .ras) (c .wr) + c .rp) (c .rc)
   unfolding refreshHeld
-  refresh-most = omega (arith, all-most, cycle-most)
+  refresh-most = omega (arith, all-most, row-cycle-most)
 
   other-most : (b o : ℕ) → otherHeld c p b o ≤ c .rrd
   unfolding otherHeld

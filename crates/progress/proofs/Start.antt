@@ -84,6 +84,11 @@ none-left c p PrechargeAll e = refl
 none-left c p Refresh e = refl
 none-left c p (RefreshCycle left) e = refl
 
+-- R15's wait is part of a REFR's
+closed-first : (c : Config) (p : Past) → short c p anyPrecharge ≤ refrHeld c p
+unfolding refrHeld
+closed-first c p = omega arith
+
 module _ {c : Config} (ok : Accepted c) (p : Past) where
   -- what a slot takes
   pub record Sooner (a : Action) (s : Served) : Type 0 where
@@ -116,17 +121,9 @@ module _ {c : Config} (ok : Accepted c) (p : Past) where
       let y = short-falls ok p Refr modeRegister tt refl in
       omega arith
 
-  close-refr : short c (sentOf p Refr) anyPrecharge ≤ short c p anyPrecharge - 1
-  unfolding marksOf
-  close-refr = short-falls ok p Refr anyPrecharge tt refl .by
-
   refr-refr : refrHeld c (sentOf p Refr) ≤ refrHeld c p - 1
   unfolding marksOf
   refr-refr = refr-falls ok p Refr refl (λ b. refl) .by
-
-  closed-first : short c p anyPrecharge ≤ refrHeld c p
-  unfolding refrHeld
-  closed-first = omega arith
 
   pause : (n : ℕ) → 1 ≤ n → Sooner (PowerUp n) (performedOf c p (rest (afterPause n)))
   unfolding afterPause quietly
@@ -158,7 +155,7 @@ module _ {c : Config} (ok : Accepted c) (p : Past) where
       (λ e.
       let g = gap-refr (legal-r2 c p Refr e) in
       if-both (λ a. Sooner (InitRefresh n) (sent-as a)) (leb n 1)
-      (λ l. record { by = omega (arith, close-refr, closed-first, each, ok .rfc-least) })
+      (λ l. record { by = omega (arith, refr-refr, closed-first c (sentOf p Refr), each, ok .rfc-least) })
       (λ l. record { by = omega (arith, refr-refr, each, ok .rfc-least) }))
       (λ e.
       let w : 1 ≤ gap c p + refrHeld c p = waits (gap c p + refrHeld c p) (λ z. refr-ready c p (gap-ready c p (omega arith)) (s .0) (omega arith)) e in

@@ -128,15 +128,16 @@ unfoldable pub allHeld : Config → Past → ℕ
 allHeld c p = max (max (openHeld c p 0) (openHeld c p 1)) (max (openHeld c p 2) (openHeld c p 3))
 
 -- what R16 keeps a REFR back
-unfoldable pub cycleHeld : Config → Past → ℕ
-cycleHeld c p = max (max (short c p (rowCycle 0)) (short c p (rowCycle 1))) (max (short c p (rowCycle 2)) (short c p (rowCycle 3)))
+unfoldable pub rowCycleHeld : Config → Past → ℕ
+rowCycleHeld c p = max (max (short c p (rowCycle 0)) (short c p (rowCycle 1))) (max (short c p (rowCycle 2)) (short c p (rowCycle 3)))
 
--- what keeps a refresh's REFR back: after its DEAC R15 and R16; before it, DEAC's wait and tRP, or R16
+-- what keeps a refresh's REFR back, with its DEAC sent: the longer of R15's and R16's wait
 unfoldable pub refrHeld : Config → Past → ℕ
-refrHeld c p = max (short c p anyPrecharge) (cycleHeld c p)
+refrHeld c p = max (short c p anyPrecharge) (rowCycleHeld c p)
 
+-- and with its DEAC to come: the longer of the DEAC's wait with tRP, and R16's
 unfoldable pub refreshHeld : Config → Past → ℕ
-refreshHeld c p = max (allHeld c p + c .rp) (cycleHeld c p)
+refreshHeld c p = max (allHeld c p + c .rp) (rowCycleHeld c p)
 
 -- what R7 keeps an ACT of bank b back
 unfoldable pub otherHeld : Config → Past → ℕ → ℕ → ℕ

@@ -2,7 +2,6 @@
 use Prim.Native.Nat.{ℕ, suc, _+_, _-_, _*_, _≤_, _<_, min}
 use native.Mathlib.Omega.{arith}
 use mathlib.Core.Path.{_≡_, refl, sym, ap, _∙_}
-use mathlib.Core.List.{[], _∷_, _++_}
 use mathlib.Core.Logic.{_⊎_, inl, inr, ⊎-elim}
 use mathlib.Core.Bool.{true, false, _&&_, true≢false, false≢true}
 use lib.Dec.{leb, eqb}
@@ -12,9 +11,9 @@ use Rattle.config.specs.Accepted.{Accepted}
 use Rattle.command.specs.declared.Command.{Command}
 use Rattle.command.specs.declared.Command.the-variants.{Nop, Deac, Refr, Mrs}
 use Rattle.device.specs.View.{refreshCycle, modeRegister, anyPrecharge, rowCycle, starts, allClosed, marksOf, rowOf}
-use Rattle.device.specs.Rules.{allHold, R12-open, R13-open, R14, R15, R16, requirements, legalOf}
+use Rattle.device.specs.Rules.{allHold, R12-open, R13-open, R16, requirements, legalOf, prechargedOf}
 use Rattle.device.proofs.Tests.{by-test, if-both, both}
-use Rattle.device.proofs.Alike.{hold-append, prechargedRules, refr-parts, mrs-parts}
+use Rattle.device.proofs.Parts.{refr-parts, mrs-parts}
 use Rattle.ages.specs.declared.Past.{Past}
 use Rattle.ages.specs.Ages.{cap, freshOf, ageOf, openIn, rowIn, openRows, rowAt, byAges, agedOf, agesAfter, sentOf}
 use Rattle.ages.proofs.Slot.{sent-age}
@@ -40,8 +39,8 @@ use Rattle.soundness.proofs.Past.{nop-closed, refr-closed, deac-closed}
 use Rattle.soundness.proofs.Plans.{Served, performedOf, servedOf, performed-both, rest-only}
 use Rattle.model.specs.Condition.{firstService}
 use Rattle.theorem.proofs.Timing.Actions.{older-sent}
-use Rattle.theorem.proofs.Invariant.{short, cycleHeld, refrHeld}
-use Rattle.theorem.proofs.Timing.Distances.{Ready, cycle-falls, refr-ready, mrs-ready}
+use Rattle.theorem.proofs.Invariant.{short, rowCycleHeld, refrHeld}
+use Rattle.theorem.proofs.Timing.Distances.{Ready, row-cycle-falls, refr-ready, mrs-ready}
 
 -- the slot of the MRS
 abbrev modeSlot : Config → ℕ
@@ -51,7 +50,7 @@ modeSlot c = 8 * c .rr + 1 + c .rp + 8 * c .rfc
 pub record Closed (c : Config) (p : Past) : Type 0 where
   pub closed : allClosed (rowAt p) ≡ true
   pub unset : 2 ≤ ageOf p modeRegister
-  pub cycled : cycleHeld c p ≡ 0
+  pub row-cycled : rowCycleHeld c p ≡ 0
 
 -- n REFRs are left, and the next is sent as soon as tRP after the DEAC and tRFC after the one before are kept
 pub record Refreshing (c : Config) (p : Past) (now n : ℕ) : Type 0 where
@@ -97,9 +96,9 @@ fresh-deac : (c : Config) → c .rfc ≤ cap → legalOf c (byAges c freshOf) De
 unfolding legalOf requirements R12-open R13-open freshOf openRows rowIn openIn
 fresh-deac c h = simp (le-leb (c .rfc) cap h)
 
-fresh-cycled : (c : Config) → c .rc ≤ cap → cycleHeld c freshOf ≡ 0
-unfolding cycleHeld short freshOf
-fresh-cycled c h = omega arith
+fresh-row-cycled : (c : Config) → c .rc ≤ cap → rowCycleHeld c freshOf ≡ 0
+unfolding rowCycleHeld short freshOf
+fresh-row-cycled c h = omega arith
 
 module _ (p : Past) where
   -- the ages after a NOP, a REFR and an MRS
@@ -132,37 +131,37 @@ module _ (c : Config) (p : Past) (q : Closed c p) where
 
   refr-legal : c .rfc ≤ ageOf p refreshCycle → c .rp ≤ ageOf p anyPrecharge → legalOf c (byAges c p) Refr ≡ true
   unfolding short refrHeld
-  refr-legal a b = refr-ready c p (ready a) (q .closed) (omega (arith, q .cycled))
+  refr-legal a b = refr-ready c p (ready a) (q .closed) (omega (arith, q .row-cycled))
 
   mrs-legal : c .rfc ≤ ageOf p refreshCycle → c .rp ≤ ageOf p anyPrecharge → legalOf c (byAges c p) (Mrs (modeWord c)) ≡ true
   unfolding short
   mrs-legal a b = mrs-ready c p (ready a) (q .closed) (omega arith)
 
-  precharged-kept : allHold (prechargedRules (byAges c p)) ≡ true → (c .rfc ≤ ageOf p refreshCycle) × (c .rp ≤ ageOf p anyPrecharge)
+  precharged-kept : prechargedOf (byAges c p) ≡ true → (c .rfc ≤ ageOf p refreshCycle) × (c .rp ≤ ageOf p anyPrecharge)
+  unfolding prechargedOf
   precharged-kept h =
-      let others = allHold (R14 (byAges c p) ++ R15 (byAges c p) ∷ []) in
-      let x = both (leb (c .rfc) (ageOf p refreshCycle)) (leb 2 (ageOf p modeRegister) && others) h in
-      let y = both (leb 2 (ageOf p modeRegister)) others (x .1) in
-      let z = both (allHold (R14 (byAges c p))) (leb (c .rp) (ageOf p anyPrecharge) && true) (sym (hold-append (R14 (byAges c p)) (R15 (byAges c p) ∷ [])) ∙ y .1) in
-      (leb-true _ _ (x .0), leb-true _ _ (both (leb (c .rp) (ageOf p anyPrecharge)) true (z .1) .0))
+      let closing = allClosed (rowAt p) && leb (c .rp) (ageOf p anyPrecharge) in
+      let x = both (leb (c .rfc) (ageOf p refreshCycle)) (leb 2 (ageOf p modeRegister) && closing) h in
+      let y = both (leb 2 (ageOf p modeRegister)) closing (x .1) in
+      (leb-true _ _ (x .0), leb-true _ _ (both (allClosed (rowAt p)) (leb (c .rp) (ageOf p anyPrecharge)) (y .1) .1))
 
   refr-kept : legalOf c (byAges c p) Refr ≡ true → (c .rfc ≤ ageOf p refreshCycle) × (c .rp ≤ ageOf p anyPrecharge)
-  refr-kept h = precharged-kept (both (allHold (prechargedRules (byAges c p))) (allHold (R16 (byAges c p))) (sym (refr-parts c (byAges c p)) ∙ h) .0)
+  refr-kept h = precharged-kept (both (prechargedOf (byAges c p)) (allHold (R16 (byAges c p))) (sym (refr-parts c (byAges c p)) ∙ h) .0)
 
   mrs-kept : legalOf c (byAges c p) (Mrs (modeWord c)) ≡ true → c .rfc ≤ ageOf p refreshCycle
-  mrs-kept h = precharged-kept (both (eqb (modeWord c) (16 * c .latency)) (allHold (prechargedRules (byAges c p))) (sym (mrs-parts c (byAges c p) (modeWord c)) ∙ h) .1) .0
+  mrs-kept h = precharged-kept (both (eqb (modeWord c) (16 * c .latency)) (prechargedOf (byAges c p)) (sym (mrs-parts c (byAges c p) (modeWord c)) ∙ h) .1) .0
 
 module _ {c : Config} (ok : Accepted c) (p : Past) (q : Closed c p) where
-  still-cycled : (k : Command) → ((b : ℕ) → starts (rowCycle b) k ≡ false) → cycleHeld c (sentOf p k) ≡ 0
-  still-cycled k f = omega (arith, cycle-falls ok p k f .by, q .cycled)
+  still-row-cycled : (k : Command) → ((b : ℕ) → starts (rowCycle b) k ≡ false) → rowCycleHeld c (sentOf p k) ≡ 0
+  still-row-cycled k f = omega (arith, row-cycle-falls ok p k f .by, q .row-cycled)
 
   quiet-nop : Closed c (sentOf p Nop)
   unfolding marksOf
-  quiet-nop = let e = nop-ages p .2 in record { closed = nop-closed p ∙ q .closed; unset = omega (arith, q .unset); cycled = still-cycled Nop (λ b. refl) }
+  quiet-nop = let e = nop-ages p .2 in record { closed = nop-closed p ∙ q .closed; unset = omega (arith, q .unset); row-cycled = still-row-cycled Nop (λ b. refl) }
 
   quiet-refr : Closed c (sentOf p Refr)
   unfolding marksOf
-  quiet-refr = let e = refr-ages p .2 in record { closed = refr-closed p ∙ q .closed; unset = omega (arith, q .unset); cycled = still-cycled Refr (λ b. refl) }
+  quiet-refr = let e = refr-ages p .2 in record { closed = refr-closed p ∙ q .closed; unset = omega (arith, q .unset); row-cycled = still-row-cycled Refr (λ b. refl) }
 
 -- n REFRs of tRFC each
 pub one-less : (n f : ℕ) → 1 ≤ n → n * f ≡ (n - 1) * f + f
@@ -185,7 +184,7 @@ module _ (c : Config) (a : Accepted c) where
   unfolding sentOf agesAfter freshOf agedOf marksOf rowOf
   precharging now e =
       record {
-        closed = record { closed = deac-closed freshOf; unset = omega arith; cycled = omega (arith, cycle-falls a freshOf Deac (λ b. refl) .by, fresh-cycled c (omega (arith, a .rc-most))) };
+        closed = record { closed = deac-closed freshOf; unset = omega arith; row-cycled = omega (arith, row-cycle-falls a freshOf Deac (λ b. refl) .by, fresh-row-cycled c (omega (arith, a .rc-most))) };
         least = omega arith;
         most = omega arith;
         one = inl (a .rfc-most);

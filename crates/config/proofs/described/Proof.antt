@@ -8,7 +8,7 @@ use Rattle.config.proofs.described.Tie as tie
 use Rattle.words.specs.Words.{fieldOf, T-RFC, T-RP, T-WR, T-RAS, T-RC}
 use Rattle.config.specs.Setting.{configOf, refreshSpan, slots}
 
--- the refresh span of the fields of TIM fits a byte
+-- the refresh span of the fields of TIM fits a byte; apart, since with all that is known at the cast its two maxima are too many cases
 byte : (tim : ℕ) {span m ras wr rp rc rfc : ℕ} → span ≡ refreshSpan m rp rc rfc → m ≡ max ras wr
     → ras ≡ slots (fieldOf tim T-RAS) → wr ≡ slots (fieldOf tim T-WR) → rp ≡ slots (fieldOf tim T-RP) → rc ≡ slots (fieldOf tim T-RC)
     → rfc ≡ slots (fieldOf tim T-RFC) → span < 256

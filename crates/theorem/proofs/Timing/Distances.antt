@@ -1,7 +1,7 @@
 -- What is left of the distances: a slot takes one from each that its command does not start anew, and where nothing is left a command is legal.
 use Prim.Native.Nat.{ℕ, suc, _+_, _-_, _^_, _≤_, _<_, min, max}
 use mathlib.Core.Path.{_≡_, refl, ap, ap₂, _∙_}
-use mathlib.Core.Bool.{Bool, true, false, cond, not, _&&_, _||_, false≢true}
+use mathlib.Core.Bool.{Bool, true, false, cond, not, _&&_, _||_}
 use native.Mathlib.Omega.{arith}
 use lib.Dec.{leb, eqb, lit<}
 use borrow.Author.Tests.{le-leb, lt-ltb, eq-eqb}
@@ -30,13 +30,14 @@ use Rattle.device.specs.View.{
   isSome,
   allClosed,
 }
-use Rattle.device.specs.Rules.{allHold, R7, R12-open, R13-open, R14, R16, requirements, legalOf}
-use Rattle.device.proofs.Alike.{Known, prechargedRules, refr-parts, mrs-parts}
+use Rattle.device.specs.Rules.{allHold, R7, R12-open, R13-open, R16, requirements, legalOf, prechargedOf}
+use Rattle.device.proofs.Parts.{refr-parts, mrs-parts}
+use Rattle.device.proofs.Alike.{Known}
 use Rattle.ages.specs.declared.Past.{Past}
 use Rattle.ages.specs.Ages.{cap, ageOf, rowAt, byAges, sentOf}
 use Rattle.ages.proofs.Slot.{Aged, sent-age, sent-row, reached, some-slots}
 use Rattle.plan.specs.Plan.{modeWord}
-use Rattle.theorem.proofs.Invariant.{short, bankHeld, openHeld, allHeld, cycleHeld, refrHeld, refreshHeld, otherHeld, othersHeld}
+use Rattle.theorem.proofs.Invariant.{short, bankHeld, openHeld, allHeld, rowCycleHeld, refrHeld, refreshHeld, otherHeld, othersHeld}
 
 -- less by one, down to nothing
 pub record Falls (after before : ℕ) : Type 0 where
@@ -94,9 +95,9 @@ module _ {c : Config} (ok : Accepted c) (p : Past) where
       max-falls (max-falls (open-falls 0 (lit< tt)) (open-falls 1 (lit< tt))) (max-falls (open-falls 2 (lit< tt)) (open-falls 3 (lit< tt)))
 
   -- by every command but an ACT
-  pub cycle-falls : (k : Command) → ((b : ℕ) → starts (rowCycle b) k ≡ false) → Falls (cycleHeld c (sentOf p k)) (cycleHeld c p)
-  unfolding cycleHeld
-  cycle-falls k f = max-falls (max-falls (at 0 (lit< tt)) (at 1 (lit< tt))) (max-falls (at 2 (lit< tt)) (at 3 (lit< tt)))
+  pub row-cycle-falls : (k : Command) → ((b : ℕ) → starts (rowCycle b) k ≡ false) → Falls (rowCycleHeld c (sentOf p k)) (rowCycleHeld c p)
+  unfolding rowCycleHeld
+  row-cycle-falls k f = max-falls (max-falls (at 0 (lit< tt)) (at 1 (lit< tt))) (max-falls (at 2 (lit< tt)) (at 3 (lit< tt)))
     where
       at : (b : ℕ) → b < 4 → Falls (short c (sentOf p k) (rowCycle b)) (short c p (rowCycle b))
       at b h = short-falls ok p k (rowCycle b) h (f b)
@@ -104,20 +105,20 @@ module _ {c : Config} (ok : Accepted c) (p : Past) where
   -- by every command but an ACT, a PRE and a DEAC
   pub refr-falls : (k : Command) → starts anyPrecharge k ≡ false → ((b : ℕ) → starts (rowCycle b) k ≡ false) → Falls (refrHeld c (sentOf p k)) (refrHeld c p)
   unfolding refrHeld
-  refr-falls k f g = max-falls (short-falls ok p k anyPrecharge tt f) (cycle-falls k g)
+  refr-falls k f g = max-falls (short-falls ok p k anyPrecharge tt f) (row-cycle-falls k g)
 
-  -- a DEAC that waits, with tRP to come in any case, and one that is sent
+  -- with the DEAC to come, a NOP takes one, but leaves tRP, which the DEAC has still to start; a DEAC takes one
   pub refresh-falls : refreshHeld c (sentOf p Nop) + 1 ≤ max (c .rp + 1) (refreshHeld c p)
   unfolding refreshHeld marksOf
-  refresh-falls = omega (arith, all-falls .by, cycle-falls Nop (λ b. refl) .by)
-
-  pub deac-falls : refrHeld c (sentOf p Deac) + 1 ≤ refreshHeld c p
-  unfolding refrHeld refreshHeld marksOf
-  deac-falls = omega (arith, short-new c p Deac anyPrecharge tt refl, cycle-falls Deac (λ b. refl) .by, ok .rp-least)
+  refresh-falls = omega (arith, all-falls .by, row-cycle-falls Nop (λ b. refl) .by)
 
   pub refresh-some : allHeld c p + c .rp ≤ refreshHeld c p
   unfolding refreshHeld
   refresh-some = omega arith
+
+  pub deac-falls : refrHeld c (sentOf p Deac) + 1 ≤ refreshHeld c p
+  unfolding refrHeld refreshHeld marksOf
+  deac-falls = omega (arith, short-new c p Deac anyPrecharge tt refl, row-cycle-falls Deac (λ b. refl) .by, ok .rp-least)
 
   other-falls : (k : Command) (b o : ℕ) → o < 4 → starts (rowToRow o) k ≡ false → Falls (otherHeld c (sentOf p k) b o) (otherHeld c p b o)
   unfolding otherHeld
@@ -156,16 +157,16 @@ module _ {c : Config} (ok : Accepted c) {p : Past} (aged : Aged p) where
   unfolding allHeld
   all-least = omega (arith, open-least 0 (lit< tt), open-least 1 (lit< tt), open-least 2 (lit< tt), open-least 3 (lit< tt))
 
-  cycle-least : cycleHeld c p + 1 ≤ c .rc
-  unfolding cycleHeld
-  cycle-least = omega (arith, at 0 (lit< tt), at 1 (lit< tt), at 2 (lit< tt), at 3 (lit< tt))
+  row-cycle-least : rowCycleHeld c p + 1 ≤ c .rc
+  unfolding rowCycleHeld
+  row-cycle-least = omega (arith, at 0 (lit< tt), at 1 (lit< tt), at 2 (lit< tt), at 3 (lit< tt))
     where
       at : (b : ℕ) → b < 4 → short c p (rowCycle b) + 1 ≤ c .rc
       at b h = short-least ok aged (rowCycle b) h
 
   pub refresh-least : refreshHeld c p + 1 ≤ max (max (c .ras) (c .wr) + c .rp) (c .rc)
   unfolding refreshHeld
-  refresh-least = omega (arith, all-least, cycle-least)
+  refresh-least = omega (arith, all-least, row-cycle-least)
 
   other-least : (b o : ℕ) → o < 4 → otherHeld c p b o + 1 ≤ c .rrd
   unfolding otherHeld
@@ -219,8 +220,8 @@ module _ (c : Config) (p : Past) where
       go true y = bank-ready b y
       go false y = (refl, refl)
 
-  R16-ready : cycleHeld c p ≡ 0 → allHold (R16 (byAges c p)) ≡ true
-  unfolding R16 cycleHeld
+  R16-ready : rowCycleHeld c p ≡ 0 → allHold (R16 (byAges c p)) ≡ true
+  unfolding R16 rowCycleHeld
   R16-ready e =
       short-kept c p (rowCycle 0) (omega arith)
       both short-kept c p (rowCycle 1) (omega arith)
@@ -301,29 +302,9 @@ module _ (c : Config) (p : Past) where
         both refl
 
     -- REFR and MRS: R2, all banks closed, and tRP
-    precharged-ready : allClosed (rowAt p) ≡ true → short c p anyPrecharge ≡ 0 → allHold (prechargedRules (byAges c p)) ≡ true
-    unfolding R14 allClosed
-    precharged-ready closed x =
-        let open0 = isSome (rowAt p 0) in
-        let open1 = isSome (rowAt p 1) in
-        let open2 = isSome (rowAt p 2) in
-        let open3 = isSome (rowAt p 3) in
-        let z = split (not open0) (not open1) (not open2) (not open3) closed in
-        le-leb _ _ (ready .cycle)
-        both le-leb _ _ (ready .mode)
-        both z .0
-        both z .1
-        both z .2
-        both z .3
-        both short-kept c p anyPrecharge x
-        both refl
-      where
-        split : (x y z t : Bool) → (x && (y && (z && t))) ≡ true → (x ≡ true) × (y ≡ true) × (z ≡ true) × (t ≡ true)
-        split true true true true e = (refl, refl, refl, refl)
-        split true true true false e = absurd (false≢true e)
-        split true true false t e = absurd (false≢true e)
-        split true false z t e = absurd (false≢true e)
-        split false y z t e = absurd (false≢true e)
+    precharged-ready : allClosed (rowAt p) ≡ true → short c p anyPrecharge ≡ 0 → prechargedOf (byAges c p) ≡ true
+    unfolding prechargedOf
+    precharged-ready closed x = le-leb _ _ (ready .cycle) both le-leb _ _ (ready .mode) both closed both short-kept c p anyPrecharge x
 
     pub refr-ready : allClosed (rowAt p) ≡ true → refrHeld c p ≡ 0 → legalOf c (byAges c p) Refr ≡ true
     unfolding refrHeld

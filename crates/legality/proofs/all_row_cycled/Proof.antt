@@ -2,8 +2,8 @@
 use borrow.Author.Needs.{needs}
 use borrow.Author.Tests.{le-leb, lt-leb}
 use Rattle.device.specs.Rules.{R16}
-use Rattle.legality.proofs.all_cycled.Statement.{statement}
-use Rattle.legality.proofs.all_cycled.Tie as tie
+use Rattle.legality.proofs.all_row_cycled.Statement.{statement}
+use Rattle.legality.proofs.all_row_cycled.Tie as tie
 
 element-copy-out-if1 : tie.Need-element-copy-out-if1
 element-copy-out-if1 c = search needs
@@ -45,8 +45,8 @@ returns-5 c opened rows programmed =
     let at-if2 = at-if3 .before .before .before in
     rw (le-leb _ _ (at-if2 .before .before .before .if1 .left), le-leb _ _ (at-if2 .if2 .left), le-leb _ _ (at-if3 .if3 .left), le-leb _ _ (c .if4 .left))
 
-pub all-cycled-spec : {M : Type 1} → statement M
-all-cycled-spec =
+pub all-row-cycled-spec : {M : Type 1} → statement M
+all-row-cycled-spec =
     tie.close
     (tie.spec
     element-copy-out-if1
