@@ -1,6 +1,6 @@
 // Owns the configuration: from document 01's four register words to it, or to one of the numbers 1, 2 and 3, and the test of a record.
 ghost use mathlib.Core.Path.{_≡_};
-ghost use Prim.Native.Nat.{_<_, _≤_, _^_, max};
+ghost use Prim.Native.Nat.{_<_, _≤_, max};
 ghost use Rattle.words.specs.Words.{bits, fieldOf};
 ghost use Rattle.config.specs.Setting.{noConfig, offeredOf, geometryOf, configOf, tooShort, checkedOf, refusedOf, settingOf, mapNumberOf, slots, accessSpan, refreshSpan};
 ghost use Rattle.config.specs.Accepted.{outsideOf, shapedOf, distancesOf, spannedOf, acceptedOf};

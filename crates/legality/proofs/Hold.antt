@@ -1,9 +1,9 @@
 -- What makes each command legal by the ages, as the code tests it: one after another.
-use Prim.Native.Nat.{ℕ, _+_, _*_, _^_}
+use Prim.Native.Nat.{ℕ, _+_, _^_}
 use mathlib.Core.Path.{_≡_, refl, sym, _∙_}
 use mathlib.Core.Bool.{Bool, true, false, not, _&&_, _||_}
 use mathlib.Core.List.{[], _∷_}
-use lib.Dec.{leb, ltb, eqb, lit<}
+use lib.Dec.{leb, ltb, lit<}
 use lib.ListN.{getD}
 use borrow.Author.Tests.{not-false, not-true}
 use Rattle.address.specs.declared.Bank.{Bank}
