@@ -94,7 +94,7 @@ fn access_span(m: u8, rp: u8, rc: u8, rrd: u8, rcd: u8, latency: u8) -> u32
     m as u32 + rp as u32 + rc as u32 + rrd as u32 + rcd as u32 + latency as u32 + 2
 }
 
-// tRFC after the later of two: DEAC, and tRP more; the last ACT, and tRC more.
+// The longer of two waits, for a DEAC with tRP and for tRC after an ACT; then tRFC.
 fn refresh_span(m: u8, rp: u8, rc: u8, rfc: u8) -> u32
     ensures { λ r. ⌜ r ≡ refreshSpan m rp rc rfc ⌝ }
 {

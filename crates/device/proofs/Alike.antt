@@ -25,7 +25,8 @@ use Rattle.device.specs.View.{
   writeRecovery,
   allClosed,
 }
-use Rattle.device.specs.Rules.{allHold, R1-bank, R7, R12-open, R13-open, R16, requirements, legalOf, prechargedOf}
+use Rattle.device.specs.Rules.{allHold, R1-bank, R7, R12-open, R13-open, R16, requirements, legalOf}
+use Rattle.device.specs.Shared.{prechargedOf}
 use Rattle.device.proofs.Tests.{by-test}
 use Rattle.device.proofs.Parts.{refr-parts, mrs-parts}
 

@@ -14,6 +14,10 @@ pub if-both : {A : Type 0} (P : A → Type 0) (b : Bool) {x y : A} → (b ≡ tr
 if-both P true f g = f refl
 if-both P false f g = g refl
 
+pub and-true : (t : Bool) → (t && true) ≡ t
+and-true true = refl
+and-true false = refl
+
 pub cond-same : {A : Type 0} (b : Bool) (x : A) → cond b x x ≡ x
 cond-same true x = refl
 cond-same false x = refl

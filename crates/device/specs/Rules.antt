@@ -20,7 +20,6 @@ use Rattle.device.specs.View.{
   rowActive,
   writeRecovery,
   opened,
-  allClosed,
 }
 
 -- a row of the table: the rule, the bank that a judge names for it, and whether it holds
@@ -122,10 +121,6 @@ allHold (x ∷ xs) = x .holds && allHold xs
 -- a command is legal when all rules hold that it has
 unfoldable pub legalOf : Config → View → Command → Bool
 legalOf c v k = allHold (requirements c v k)
-
--- R2, R14 and R15 as one test: what REFR and MRS have in common (proofs/Parts)
-unfoldable pub prechargedOf : View → Bool
-prechargedOf v = v .kept refreshCycle && (v .kept modeRegister && (allClosed (v .row) && v .kept anyPrecharge))
 
 -- a slot in which a command is tried: it is sent if legal, otherwise the slot is a NOP
 unfoldable pub carriedOf : Config → View → Command → Command

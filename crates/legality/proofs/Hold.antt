@@ -12,16 +12,14 @@ use Rattle.address.specs.declared.Column.{Column}
 use Rattle.config.specs.declared.Config.{Config}
 use Rattle.command.specs.declared.Command.the-variants.{Act, Read, Wrt, Pre, Deac}
 use Rattle.device.specs.View.{isSome, allClosed}
-use Rattle.device.specs.Rules.{R7, R10, R12-open, R13-open, allHold, requirements, legalOf, prechargedOf}
+use Rattle.device.specs.Rules.{R7, R10, R12-open, R13-open, allHold, requirements, legalOf}
+use Rattle.device.specs.Shared.{prechargedOf}
+use Rattle.device.proofs.Tests.{and-true}
 use Rattle.device.proofs.Parts.{hold-append}
 use Rattle.ages.specs.declared.Past.{Past}
 use Rattle.ages.proofs.Record.{open-here}
 use Rattle.ages.specs.Ages.{rowAt, byAges}
 use Rattle.legality.specs.Verdict.{settledOf}
-
-and-true : (t : Bool) → (t && true) ≡ t
-and-true true = refl
-and-true false = refl
 
 -- a test that the code passed, and one that it failed
 pub passed : {r t : Bool} → r ≡ t → not r ≡ false → t ≡ true

@@ -11,7 +11,8 @@ ghost use mathlib.Core.List.{List};
 ghost use Prim.Native.Nat.{ℕ, _+_, _≤_, _^_};
 ghost use lib.Dec.{leb, ltb, eqb};
 ghost use Rattle.config.specs.Accepted.{Shaped};
-ghost use Rattle.device.specs.Rules.{allHold, R7, R12-open, R13-open, R16, legalOf, prechargedOf};
+ghost use Rattle.device.specs.Rules.{allHold, R7, R12-open, R13-open, R16, legalOf};
+ghost use Rattle.device.specs.Shared.{prechargedOf};
 ghost use Rattle.ages.specs.Ages.{pastOf, byAges};
 ghost use Rattle.legality.specs.Verdict.{Verdict, settledOf};
 

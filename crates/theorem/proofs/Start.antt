@@ -11,7 +11,8 @@ use Rattle.config.specs.Accepted.{Accepted}
 use Rattle.command.specs.declared.Command.{Command}
 use Rattle.command.specs.declared.Command.the-variants.{Nop, Deac, Refr, Mrs}
 use Rattle.device.specs.View.{refreshCycle, modeRegister, anyPrecharge, rowCycle, starts, allClosed, marksOf, rowOf}
-use Rattle.device.specs.Rules.{allHold, R12-open, R13-open, R16, requirements, legalOf, prechargedOf}
+use Rattle.device.specs.Rules.{allHold, R12-open, R13-open, R16, requirements, legalOf}
+use Rattle.device.specs.Shared.{prechargedOf}
 use Rattle.device.proofs.Tests.{by-test, if-both, both}
 use Rattle.device.proofs.Parts.{refr-parts, mrs-parts}
 use Rattle.ages.specs.declared.Past.{Past}

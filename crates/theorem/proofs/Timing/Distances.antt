@@ -30,7 +30,8 @@ use Rattle.device.specs.View.{
   isSome,
   allClosed,
 }
-use Rattle.device.specs.Rules.{allHold, R7, R12-open, R13-open, R16, requirements, legalOf, prechargedOf}
+use Rattle.device.specs.Rules.{allHold, R7, R12-open, R13-open, R16, requirements, legalOf}
+use Rattle.device.specs.Shared.{prechargedOf}
 use Rattle.device.proofs.Parts.{refr-parts, mrs-parts}
 use Rattle.device.proofs.Alike.{Known}
 use Rattle.ages.specs.declared.Past.{Past}
