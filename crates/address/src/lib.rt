@@ -2,7 +2,8 @@
 // which `standalone` has the code.
 use config::Geometry;
 ghost use mathlib.Core.Path.{_≡_};
-ghost use Prim.Native.Nat.{_<_, _^_};
+ghost use Prim.Native.Nat.{_<_, _≤_, _^_};
+ghost use lib.Dec.{ltb};
 ghost use Rattle.config.specs.Accepted.{Shaped};
 ghost use Rattle.address.specs.Map.{capacityOf, cellOf, addressNumberOf, blockOf};
 
@@ -28,6 +29,14 @@ pub fn span(width: u8) -> u32
     ensures { λ r. ⌜ r ≡ 2 ^ width ⌝ }
 {
     words::power(width as u32)
+}
+
+// Is a number one of those that a width of the geometry has?
+pub fn inside(n: u16, width: u8) -> bool
+    requires { ⌜ width ≤ 13 ⌝ }
+    ensures { λ r. ⌜ r ≡ ltb n (2 ^ width) ⌝ }
+{
+    n < 1u16 << width
 }
 
 // How many bytes the device holds.

@@ -1,26 +1,27 @@
 -- The sequencer's reading of the past agrees with the plain SDRAM's: an age stands for the slot of the last command that starts its
 -- distances, up to the cap.
 use Prim.Native.Nat.{ℕ, zero, suc, _+_, _≤_, _<_, min}
-use mathlib.Core.Path.{_≡_, refl, sym, _∙_}
+use mathlib.Core.Path.{_≡_, refl, sym, ap, _∙_}
 use mathlib.Core.Bool.{Bool, true, false, cond}
-use mathlib.Core.List.{[], _∷_}
+use mathlib.Core.List.{_∷_}
 use mathlib.Core.Option.{Option, none, some}
 use native.Mathlib.Omega.{arith}
 use lib.Dec.{leb}
-use borrow.Author.Tests.{leb-true, leb-false, le-leb}
+use borrow.Author.Tests.{leb-true, le-leb}
 use Rattle.config.specs.declared.Config.{Config}
 use Rattle.config.specs.Accepted.{Accepted}
 use Rattle.command.specs.declared.Command.{Command}
 use Rattle.command.specs.declared.Command.the-variants.{Nop}
-use Rattle.device.specs.View.{Distance, modeRegister, rowCycle, rowPrecharge, slotsOf, starts, rowOf, isSome}
+use Rattle.device.specs.View.{Distance, modeRegister, slotsOf, starts, isSome}
 use Rattle.device.specs.Rules.{legalOf, carriedOf}
 use Rattle.device.specs.History.{History, Log, last, keptSince, openRow, byHistory, startLog, allowed, fed}
-use Rattle.device.proofs.Tests.{by-test, four-banks}
+use Rattle.device.proofs.Tests.{leb-both, four-banks}
 use Rattle.device.proofs.Alike.{Known, Alike, legal-same}
 use Rattle.device.proofs.Every.{Falling}
+use Rattle.device.proofs.Follows.{Follows, sent-follows, idle-follows}
 use Rattle.ages.specs.declared.Past.{Past}
 use Rattle.ages.specs.Ages.{cap, freshOf, ageOf, openIn, rowIn, openRows, rowAt, byAges, sentOf}
-use Rattle.ages.proofs.Slot.{Aged, sent-age, sent-row, starts-nop, aged-sent, aged-fresh, fresh-age, reached, triedOf}
+use Rattle.ages.proofs.Slot.{Aged, sent-age, sent-row, aged-sent, aged-fresh, fresh-age, reached, triedOf}
 
 -- an age beside the slot of the last command that started it
 abbrev Stands : ℕ → Option ℕ → ℕ → Type 0
@@ -28,11 +29,6 @@ Stands now o a = (n : ℕ) → n ≤ cap → leb n a ≡ keptSince o now n
 
 leb-to : (m n i j : ℕ) → leb m n ≡ leb i j → m ≤ n → i ≤ j
 leb-to m n i j e h = leb-true i j (sym e ∙ le-leb m n h)
-
-leb-both : (m n i j : ℕ) → (m ≤ n → i ≤ j) → (i ≤ j → m ≤ n) → leb m n ≡ leb i j
-leb-both m n i j f g = by-test (leb m n)
-    (λ e. e ∙ sym (le-leb i j (f (leb-true m n e))))
-    (λ e. by-test (leb i j) (λ t. absurd (omega (arith, leb-false m n e, g (leb-true i j t)))) (λ t. e ∙ sym t))
 
 stands-older : (now : ℕ) (o : Option ℕ) (a : ℕ) → Stands now o a → Stands (suc now) o (min cap (suc a))
 stands-older now none a h n i = le-leb n (min cap (suc a)) (let z = leb-true cap a (h cap (omega arith)) in omega arith)
@@ -59,7 +55,7 @@ pub record Agrees (p : Past) (l : Log) : Type 0 where
 
 -- so the two views are alike, whatever the distances of the configuration
 pub alike : {c : Config} {p : Past} {l : Log} → Accepted c → Agrees p l → Alike (byAges c p) (byHistory c l)
-alike {c} n a = record { programmed = a .programmed; row = a .rows; kept = λ d h. a .ages d h (slotsOf c d) (reached n d) }
+alike {c} n a = record { programmed = a .programmed; opened = λ b h. ap isSome (a .rows b h); kept = λ d h. a .ages d h (slotsOf c d) (reached n d) }
 
 -- and a command is legal by the one exactly where it is by the other
 pub same-verdict : {c : Config} {p : Past} {l : Log} → Accepted c → Agrees p l → (k : Command) → legalOf c (byAges c p) k ≡ allowed c l k
@@ -77,29 +73,6 @@ agrees-fresh = record {
   ages = λ d h n i. rw (fresh-age d h) (le-leb n cap i);
   rows = fresh-row;
   falling = tt;
-}
-
--- the history after a slot in which k was sent
-record Follows (k : Command) (now : ℕ) (h g : History) : Type 0 where
-  lasts : (d : Distance) → last d g ≡ cond (starts d k) (some now) (last d h)
-  rows : (b : ℕ) → openRow g b ≡ cond (starts (rowCycle b) k) (some (rowOf k)) (cond (starts (rowPrecharge b) k) none (openRow h b))
-  falling : Falling now h → Falling (suc now) g
-
-sent-follows : (k : Command) (now : ℕ) (h : History) → Follows k now h (record { slot = now; command = k } ∷ h)
-unfolding last openRow Falling
-sent-follows k now h = record { lasts = λ d. refl; rows = λ b. refl; falling = λ f. (omega arith, f) }
-
-falling-later : (now : ℕ) (h : History) → Falling now h → Falling (suc now) h
-unfolding Falling
-falling-later now [] f = tt
-falling-later now (s ∷ h) f = (omega arith, f .1)
-
--- a slot that leaves the history as it was is a NOP's
-idle-follows : (now : ℕ) (h : History) → Follows Nop now h h
-idle-follows now h = record {
-  lasts = λ d. rw (starts-nop d);
-  rows = λ b. rw (starts-nop (rowCycle b), starts-nop (rowPrecharge b));
-  falling = falling-later now h;
 }
 
 some-programmed : (f : Bool) (now : ℕ) (o : Option ℕ) (t : Bool) → t ≡ isSome o → cond f true t ≡ isSome (cond f (some now) o)

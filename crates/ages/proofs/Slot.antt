@@ -10,7 +10,6 @@ use borrow.Author.Tests.{leb-true, leb-false}
 use Rattle.config.specs.declared.Config.{Config}
 use Rattle.config.specs.Accepted.{Accepted}
 use Rattle.command.specs.declared.Command.{Command}
-use Rattle.command.specs.declared.Command.the-variants.{Nop}
 use Rattle.device.specs.View.{
   Distance,
   refreshCycle,
@@ -32,27 +31,27 @@ use Rattle.device.specs.Rules.{carriedOf}
 use Rattle.device.proofs.Tests.{four-banks}
 use Rattle.device.proofs.Alike.{Known}
 use Rattle.ages.specs.declared.Past.{Past}
-use Rattle.ages.specs.Ages.{cap, freshOf, ageOf, openIn, rowIn, openRows, rowAt, byAges, agedOf, agesAfter, sentOf}
+use Rattle.ages.specs.Ages.{cap, freshOf, placeOf, ageOf, openIn, rowIn, openRows, rowAt, byAges, agedOf, eachPlace, agesAfter, sentOf}
 
--- the ages that the banks' ACTs start
-act-aged : (p : Past) (k : Command) (b : ℕ) → b < 4 → getD (sentOf p k .ages) b 0 ≡ agedOf (marksOf k b .act) (getD (p .ages) b 0)
-unfolding sentOf agesAfter
-act-aged p k b h = four-banks (λ n. getD (sentOf p k .ages) n 0 ≡ agedOf (marksOf k n .act) (getD (p .ages) n 0)) refl refl refl refl b h
+-- a number for each place, by the place and whether the slot's command starts its distances, read off at a distance's place
+act-placed : (g : Bool → ℕ → ℕ) (k : Command) (b : ℕ) → b < 4 → getD (eachPlace (λ i d. g (starts d k) i)) b 0 ≡ g (marksOf k b .act) b
+act-placed g k b h = four-banks (λ n. getD (eachPlace (λ i d. g (starts d k) i)) n 0 ≡ g (marksOf k n .act) n) refl refl refl refl b h
+
+pub each-placed : (g : Bool → ℕ → ℕ) (k : Command) (d : Distance) → Known d → getD (eachPlace (λ i e. g (starts e k) i)) (placeOf d) 0 ≡ g (starts d k) (placeOf d)
+each-placed g k refreshCycle h = refl
+each-placed g k modeRegister h = refl
+each-placed g k readToWrite h = refl
+each-placed g k anyPrecharge h = refl
+each-placed g k (rowPrecharge b) h = four-banks (λ n. getD (eachPlace (λ i e. g (starts e k) i)) (4 + n) 0 ≡ g (starts (rowPrecharge n) k) (4 + n)) refl refl refl refl b h
+each-placed g k (rowCycle b) h = act-placed g k b h
+each-placed g k (rowToRow b) h = act-placed g k b h
+each-placed g k (rowToColumn b) h = act-placed g k b h
+each-placed g k (rowActive b) h = act-placed g k b h
+each-placed g k (writeRecovery b) h = four-banks (λ n. getD (eachPlace (λ i e. g (starts e k) i)) (12 + n) 0 ≡ g (starts (writeRecovery n) k) (12 + n)) refl refl refl refl b h
 
 pub sent-aged : (p : Past) (k : Command) (d : Distance) → Known d → ageOf (sentOf p k) d ≡ agedOf (starts d k) (ageOf p d)
 unfolding sentOf agesAfter
-sent-aged p k refreshCycle h = refl
-sent-aged p k modeRegister h = refl
-sent-aged p k readToWrite h = refl
-sent-aged p k anyPrecharge h = refl
-sent-aged p k (rowPrecharge b) h =
-    four-banks (λ n. ageOf (sentOf p k) (rowPrecharge n) ≡ agedOf (starts (rowPrecharge n) k) (ageOf p (rowPrecharge n))) refl refl refl refl b h
-sent-aged p k (rowCycle b) h = act-aged p k b h
-sent-aged p k (rowToRow b) h = act-aged p k b h
-sent-aged p k (rowToColumn b) h = act-aged p k b h
-sent-aged p k (rowActive b) h = act-aged p k b h
-sent-aged p k (writeRecovery b) h =
-    four-banks (λ n. ageOf (sentOf p k) (writeRecovery n) ≡ agedOf (starts (writeRecovery n) k) (ageOf p (writeRecovery n))) refl refl refl refl b h
+sent-aged p k d h = each-placed (λ f i. agedOf f (getD (p .ages) i 0)) k d h
 
 pub aged-min : (f : Bool) (a : ℕ) → agedOf f a ≡ cond f 1 (min cap (suc a))
 unfolding agedOf
@@ -85,20 +84,6 @@ sent-row p k b h =
     go n true g o = refl
     go n false true o = refl
     go n false false o = refl
-
--- a NOP starts no distance
-pub starts-nop : (d : Distance) → starts d Nop ≡ false
-unfolding marksOf
-starts-nop refreshCycle = refl
-starts-nop modeRegister = refl
-starts-nop readToWrite = refl
-starts-nop anyPrecharge = refl
-starts-nop (rowPrecharge b) = refl
-starts-nop (rowCycle b) = refl
-starts-nop (rowToRow b) = refl
-starts-nop (rowToColumn b) = refl
-starts-nop (rowActive b) = refl
-starts-nop (writeRecovery b) = refl
 
 -- The ages of a record that was made by slots, and the distances that a configuration can have.
 pub record Aged (p : Past) : Type 0 where

@@ -76,17 +76,18 @@ byAges c p = record { programmed = p .programmed; row = rowAt p; kept = λ d. le
 unfoldable pub agedOf : Bool → ℕ → ℕ
 agedOf started a = cond started 1 (cond (leb cap a) cap (a + 1))
 
+-- a number for each place, with the place and the distance that is first read off it
+abbrev pub eachPlace : (ℕ → Distance → ℕ) → List ℕ
+eachPlace f =
+    f 0 (rowCycle 0) ∷ f 1 (rowCycle 1) ∷ f 2 (rowCycle 2) ∷ f 3 (rowCycle 3)
+    ∷ f 4 (rowPrecharge 0) ∷ f 5 (rowPrecharge 1) ∷ f 6 (rowPrecharge 2) ∷ f 7 (rowPrecharge 3)
+    ∷ f 8 refreshCycle ∷ f 9 modeRegister ∷ f 10 anyPrecharge ∷ f 11 readToWrite
+    ∷ f 12 (writeRecovery 0) ∷ f 13 (writeRecovery 1) ∷ f 14 (writeRecovery 2) ∷ f 15 (writeRecovery 3)
+    ∷ []
+
 -- all ages after the slot's command k
 unfoldable pub agesAfter : List ℕ → Command → List ℕ
-agesAfter a k =
-    at 0 (rowCycle 0) ∷ at 1 (rowCycle 1) ∷ at 2 (rowCycle 2) ∷ at 3 (rowCycle 3)
-    ∷ at 4 (rowPrecharge 0) ∷ at 5 (rowPrecharge 1) ∷ at 6 (rowPrecharge 2) ∷ at 7 (rowPrecharge 3)
-    ∷ at 8 refreshCycle ∷ at 9 modeRegister ∷ at 10 anyPrecharge ∷ at 11 readToWrite
-    ∷ at 12 (writeRecovery 0) ∷ at 13 (writeRecovery 1) ∷ at 14 (writeRecovery 2) ∷ at 15 (writeRecovery 3)
-    ∷ []
-  where
-    at : ℕ → Distance → ℕ
-    at i d = agedOf (starts d k) (getD a i 0)
+agesAfter a k = eachPlace (λ i d. agedOf (starts d k) (getD a i 0))
 
 -- the open flag of bank b, and its row, after the slot's command k: ACT opens, PRE and DEAC close
 abbrev pub openAfter : List Bool → Command → ℕ → Bool

@@ -1,7 +1,8 @@
 -- Two views of the past that no rule tells apart: they agree on the banks that a device can have.
 use Prim.Native.Nat.{ℕ, suc, _^_, _<_}
 use mathlib.Core.Path.{_≡_, refl}
-use mathlib.Core.Bool.{true}
+use mathlib.Core.Bool.{true, false}
+use mathlib.Core.List.{List, _∷_}
 use native.Mathlib.Omega.{arith}
 use lib.Dec.{lit<}
 use lib.Pow.{pow-mono}
@@ -23,12 +24,11 @@ use Rattle.device.specs.View.{
   rowToColumn,
   rowActive,
   writeRecovery,
+  opened,
   allClosed,
 }
-use Rattle.device.specs.Rules.{allHold, R1-bank, R7, R12-open, R13-open, R16, requirements, legalOf}
-use Rattle.device.specs.Shared.{prechargedOf}
+use Rattle.device.specs.Rules.{Requirement, allHold, R1-bank, R7, R12-open, R13-open, R14, R16, requirements, legalOf}
 use Rattle.device.proofs.Tests.{by-test}
-use Rattle.device.proofs.Parts.{refr-parts, mrs-parts}
 
 -- a distance of one of the banks that a device can have, or of none
 abbrev pub Known : Distance → Type 0
@@ -43,9 +43,10 @@ Known (rowToColumn b) = b < 4
 Known (rowActive b) = b < 4
 Known (writeRecovery b) = b < 4
 
+-- they need not know the same row of an open bank: no rule asks for it
 pub record Alike (v w : View) : Type 0 where
   pub programmed : v .programmed ≡ w .programmed
-  pub row : (b : ℕ) → b < 4 → v .row b ≡ w .row b
+  pub opened : (b : ℕ) → b < 4 → opened v b ≡ opened w b
   pub kept : (d : Distance) → Known d → v .kept d ≡ w .kept d
 
 -- a bank in the geometry is one of the four
@@ -55,71 +56,92 @@ in-four c n b e = omega (arith, leb-true (suc b) (2 ^ (c .geometry .banks)) e, p
 module _ {v w : View} (a : Alike v w) where
   pub allClosed-same : allClosed (v .row) ≡ allClosed (w .row)
   unfolding allClosed
-  allClosed-same = rw (a .row 0 (lit< tt), a .row 1 (lit< tt), a .row 2 (lit< tt), a .row 3 (lit< tt))
+  allClosed-same = rw (a .opened 0 (lit< tt), a .opened 1 (lit< tt), a .opened 2 (lit< tt), a .opened 3 (lit< tt))
 
-  R7-same : (b : ℕ) → allHold (R7 v b) ≡ allHold (R7 w b)
+  -- The requirements of a command whose bank is one of the four.
+
+  R7-same : (b : ℕ) → R7 v b ≡ R7 w b
   unfolding R7
   R7-same b = rw (a .kept (rowToRow 0) (lit< tt), a .kept (rowToRow 1) (lit< tt), a .kept (rowToRow 2) (lit< tt), a .kept (rowToRow 3) (lit< tt))
 
-  precharged-same : prechargedOf v ≡ prechargedOf w
-  unfolding prechargedOf
-  precharged-same = rw (a .kept refreshCycle tt, a .kept modeRegister tt, allClosed-same, a .kept anyPrecharge tt)
-
-  R16-same : allHold (R16 v) ≡ allHold (R16 w)
-  unfolding R16
-  R16-same = simp (a .kept (rowCycle 0) (lit< tt), a .kept (rowCycle 1) (lit< tt), a .kept (rowCycle 2) (lit< tt), a .kept (rowCycle 3) (lit< tt))
-
-  pub legal-same : (c : Config) → Shaped (c .geometry) → (k : Command) → legalOf c v k ≡ legalOf c w k
-  unfolding legalOf requirements R12-open R13-open
-  legal-same c n Nop = refl
-  legal-same c n (Act b r) =
-      by-test
-      (R1-bank c (b .0) .holds)
-      (λ h. let i = in-four c n (b .0) h in
-      simp (
-        a .kept refreshCycle tt,
-        a .kept modeRegister tt,
-        a .programmed,
-        a .row (b .0) i,
-        a .kept (rowPrecharge (b .0)) i,
-        a .kept (rowCycle (b .0)) i,
-        R7-same (b .0),
-      ))
-      (λ h. rw h)
-  legal-same c n (Read b k) =
-      by-test
-      (R1-bank c (b .0) .holds)
-      (λ h. let i = in-four c n (b .0) h in
-      simp (a .kept refreshCycle tt, a .kept modeRegister tt, a .row (b .0) i, a .kept (rowToColumn (b .0)) i))
-      (λ h. rw h)
-  legal-same c n (Wrt b k x) =
-      by-test
-      (R1-bank c (b .0) .holds)
-      (λ h. let i = in-four c n (b .0) h in
-      simp (a .kept refreshCycle tt, a .kept modeRegister tt, a .row (b .0) i, a .kept (rowToColumn (b .0)) i, a .kept readToWrite tt))
-      (λ h. rw h)
-  legal-same c n (Pre b) =
-      by-test
-      (R1-bank c (b .0) .holds)
-      (λ h. let i = in-four c n (b .0) h in
-      simp (a .kept refreshCycle tt, a .kept modeRegister tt, a .row (b .0) i, a .kept (rowActive (b .0)) i, a .kept (writeRecovery (b .0)) i))
-      (λ h. rw h)
-  legal-same c n Deac =
-      simp (
-        a .kept refreshCycle tt,
-        a .kept modeRegister tt,
-        a .row 0 (lit< tt),
-        a .row 1 (lit< tt),
-        a .row 2 (lit< tt),
-        a .row 3 (lit< tt),
+  R12-same : R12-open v ≡ R12-open w
+  unfolding R12-open
+  R12-same =
+      rw (
+        a .opened 0 (lit< tt),
+        a .opened 1 (lit< tt),
+        a .opened 2 (lit< tt),
+        a .opened 3 (lit< tt),
         a .kept (rowActive 0) (lit< tt),
         a .kept (rowActive 1) (lit< tt),
         a .kept (rowActive 2) (lit< tt),
         a .kept (rowActive 3) (lit< tt),
+      )
+
+  R13-same : R13-open v ≡ R13-open w
+  unfolding R13-open
+  R13-same =
+      rw (
+        a .opened 0 (lit< tt),
+        a .opened 1 (lit< tt),
+        a .opened 2 (lit< tt),
+        a .opened 3 (lit< tt),
         a .kept (writeRecovery 0) (lit< tt),
         a .kept (writeRecovery 1) (lit< tt),
         a .kept (writeRecovery 2) (lit< tt),
         a .kept (writeRecovery 3) (lit< tt),
       )
-  legal-same c n Refr = rw (refr-parts c v, refr-parts c w, precharged-same, R16-same)
-  legal-same c n (Mrs x) = rw (mrs-parts c v x, mrs-parts c w x, precharged-same)
+
+  R14-same : R14 v ≡ R14 w
+  unfolding R14
+  R14-same = rw (a .opened 0 (lit< tt), a .opened 1 (lit< tt), a .opened 2 (lit< tt), a .opened 3 (lit< tt))
+
+  R16-same : R16 v ≡ R16 w
+  unfolding R16
+  R16-same = rw (a .kept (rowCycle 0) (lit< tt), a .kept (rowCycle 1) (lit< tt), a .kept (rowCycle 2) (lit< tt), a .kept (rowCycle 3) (lit< tt))
+
+  -- What is read off a command's requirements up to the first that does not hold is the same: a bank outside breaks R1 first.
+  module _ {A : Type 0} (f : List Requirement → A) (stops : (x : Requirement) (xs ys : List Requirement) → x .holds ≡ false → f (x ∷ xs) ≡ f (x ∷ ys)) where
+    pub requirements-read : (c : Config) → Shaped (c .geometry) → (k : Command) → f (requirements c v k) ≡ f (requirements c w k)
+    unfolding requirements
+    requirements-read c n Nop = refl
+    requirements-read c n (Act b r) =
+        by-test
+        (R1-bank c (b .0) .holds)
+        (λ h. let i = in-four c n (b .0) h in
+        rw (
+          R7-same (b .0),
+          a .kept refreshCycle tt,
+          a .kept modeRegister tt,
+          a .programmed,
+          a .opened (b .0) i,
+          a .kept (rowPrecharge (b .0)) i,
+          a .kept (rowCycle (b .0)) i,
+        ))
+        (stops (R1-bank c (b .0)) _ _)
+    requirements-read c n (Read b k) =
+        by-test
+        (R1-bank c (b .0) .holds)
+        (λ h. let i = in-four c n (b .0) h in
+        rw (a .kept refreshCycle tt, a .kept modeRegister tt, a .opened (b .0) i, a .kept (rowToColumn (b .0)) i))
+        (stops (R1-bank c (b .0)) _ _)
+    requirements-read c n (Wrt b k x) =
+        by-test
+        (R1-bank c (b .0) .holds)
+        (λ h. let i = in-four c n (b .0) h in
+        rw (a .kept refreshCycle tt, a .kept modeRegister tt, a .opened (b .0) i, a .kept (rowToColumn (b .0)) i, a .kept readToWrite tt))
+        (stops (R1-bank c (b .0)) _ _)
+    requirements-read c n (Pre b) =
+        by-test
+        (R1-bank c (b .0) .holds)
+        (λ h. let i = in-four c n (b .0) h in
+        rw (a .kept refreshCycle tt, a .kept modeRegister tt, a .opened (b .0) i, a .kept (rowActive (b .0)) i, a .kept (writeRecovery (b .0)) i))
+        (stops (R1-bank c (b .0)) _ _)
+    requirements-read c n Deac = rw (a .kept refreshCycle tt, a .kept modeRegister tt, R12-same, R13-same)
+    requirements-read c n Refr = rw (a .kept refreshCycle tt, a .kept modeRegister tt, R14-same, a .kept anyPrecharge tt, R16-same)
+    requirements-read c n (Mrs x) = rw (a .kept refreshCycle tt, a .kept modeRegister tt, R14-same, a .kept anyPrecharge tt)
+
+  -- so a command is legal by the one exactly where it is by the other
+  pub legal-same : (c : Config) → Shaped (c .geometry) → (k : Command) → legalOf c v k ≡ legalOf c w k
+  unfolding legalOf
+  legal-same = requirements-read allHold (λ x xs ys h. rw h)

@@ -22,7 +22,8 @@ use Rattle.device.specs.View.{
   opened,
 }
 
--- a row of the table: the rule, the bank that a judge names for it, and whether it holds
+-- a requirement: the rule, the bank that a judge names for it, and whether it holds. The bank (document 02, (v)): the command's own for R4 to R9 and for a PRE's R11 to R13, the
+-- bank found for R12 and R13 of a DEAC, R14 and R16, and 0 for R1 to R3, R10 and R15
 pub record Requirement : Type 0 where
   pub rule : ℕ
   pub bank : ℕ
@@ -102,7 +103,7 @@ R15 v = require 15 0 (v .kept anyPrecharge)
 unfoldable pub R16 : View → List Requirement
 R16 v = forBanks (λ b. require 16 b (v .kept (rowCycle b)))
 
--- the table
+-- the table: each command's requirements
 unfoldable pub requirements : Config → View → Command → List Requirement
 requirements c v Nop = []
 requirements c v (Act b r) =

@@ -5,7 +5,6 @@ use mathlib.Core.Bool.{Bool, true, false, not, _&&_, _||_}
 use mathlib.Core.List.{[], _∷_}
 use lib.Dec.{leb, ltb, lit<}
 use lib.ListN.{getD}
-use borrow.Author.Tests.{not-false, not-true}
 use Rattle.address.specs.declared.Bank.{Bank}
 use Rattle.address.specs.declared.Row.{Row}
 use Rattle.address.specs.declared.Column.{Column}
@@ -20,17 +19,6 @@ use Rattle.ages.specs.declared.Past.{Past}
 use Rattle.ages.proofs.Record.{open-here}
 use Rattle.ages.specs.Ages.{rowAt, byAges}
 use Rattle.legality.specs.Verdict.{settledOf}
-
--- a test that the code passed, and one that it failed
-pub passed : {r t : Bool} → r ≡ t → not r ≡ false → t ≡ true
-passed {r} e h = sym e ∙ not-false r h
-
-pub failed : {r t : Bool} → r ≡ t → not r ≡ true → t ≡ false
-failed {r} e h = sym e ∙ not-true r h
-
--- a test that holds leaves the others
-pub true-and : {t : Bool} → t ≡ true → (x : Bool) → (t && x) ≡ x
-true-and e x = rw e
 
 module _ (c : Config) (p : Past) where
   -- R2's two come first

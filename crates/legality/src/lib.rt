@@ -8,21 +8,13 @@ use config::Config;
 ghost use mathlib.Core.Path.{_≡_};
 ghost use mathlib.Core.Bool.{Bool, not, _||_};
 ghost use mathlib.Core.List.{List};
-ghost use Prim.Native.Nat.{ℕ, _+_, _≤_, _^_};
-ghost use lib.Dec.{leb, ltb, eqb};
+ghost use Prim.Native.Nat.{ℕ, _+_};
+ghost use lib.Dec.{leb, eqb};
 ghost use Rattle.config.specs.Accepted.{Shaped};
 ghost use Rattle.device.specs.Rules.{allHold, R7, R12-open, R13-open, R16, legalOf};
 ghost use Rattle.device.specs.Shared.{prechargedOf};
 ghost use Rattle.ages.specs.Ages.{pastOf, byAges};
 ghost use Rattle.legality.specs.Verdict.{Verdict, settledOf};
-
-// Is a number below 2 to the power of a width?
-fn inside(n: u16, width: u8) -> bool
-    requires { ⌜ width ≤ 13 ⌝ }
-    ensures { λ r. ⌜ r ≡ ltb n (2 ^ width) ⌝ }
-{
-    n < 1u16 << width
-}
 
 // R2.
 fn settled(c: Config, ages: &[u8; 16]) -> bool
@@ -168,10 +160,10 @@ pub fn act_legal(
     requires { ⌜ Shaped (c .geometry) ⌝ }
     ensures { λ r. ⌜ ((rows : List ℕ) → r ≡ legalOf c (byAges c (pastOf (now (ages .entry)) (now (opened .entry)) rows programmed)) (Command.Act bank row)) ⌝ }
 {
-    if !inside(bank.0 as u16, c.geometry.banks) {
+    if !address::inside(bank.0 as u16, c.geometry.banks) {
         return false;
     }
-    if !inside(row.0, c.geometry.rows) {
+    if !address::inside(row.0, c.geometry.rows) {
         return false;
     }
     if !settled(c, ages) {
@@ -204,10 +196,10 @@ pub fn read_legal(
     requires { ⌜ Shaped (c .geometry) ⌝ }
     ensures { λ r. ⌜ Verdict c (now (ages .entry)) (now (opened .entry)) (Command.Read bank column) r ⌝ }
 {
-    if !inside(bank.0 as u16, c.geometry.banks) {
+    if !address::inside(bank.0 as u16, c.geometry.banks) {
         return false;
     }
-    if !inside(column.0, c.geometry.columns) {
+    if !address::inside(column.0, c.geometry.columns) {
         return false;
     }
     if !settled(c, ages) {
@@ -239,7 +231,7 @@ pub fn pre_legal(c: Config, ages: &[u8; 16], opened: &[bool; 4], bank: Bank) -> 
     requires { ⌜ Shaped (c .geometry) ⌝ }
     ensures { λ r. ⌜ Verdict c (now (ages .entry)) (now (opened .entry)) (Command.Pre bank) r ⌝ }
 {
-    if !inside(bank.0 as u16, c.geometry.banks) {
+    if !address::inside(bank.0 as u16, c.geometry.banks) {
         return false;
     }
     if !settled(c, ages) {

@@ -8,7 +8,7 @@ use tape::Refusal;
 ghost use Prim.Native.Nat.{_+_, _*_, _<_};
 ghost use mathlib.Core.Path.{_≡_};
 ghost use lib.ListN.{length, getD};
-ghost use Rattle.tape.specs.Reading.{bodyLength, stepOf};
+ghost use Rattle.tape.specs.Reading.{bodyLength, wrongRun, stepOf};
 ghost use Rattle.tape_decoder.specs.Decoder.{stepIn};
 ghost use Rattle.tape_decoder.specs.Shapes.{runStep, Whole};
 
@@ -42,7 +42,7 @@ fn pair(low: u8, high: u8) -> u16
 }
 
 // Such a number at a place of a tape.
-fn pair_at(tape: &[u8], at: usize) -> u16
+pub fn pair_at(tape: &[u8], at: usize) -> u16
     requires { ⌜ at + 1 < length (now tape) ⌝ }
     ensures { λ r. ⌜ r ≡ getD (now (tape .entry)) at 0 + 256 * getD (now (tape .entry)) (at + 1) 0 ⌝ }
 {
@@ -69,18 +69,26 @@ fn sent(command: Command, at: usize) -> Found
     }
 }
 
+// Is a run after another of so many NOPs, or after none (0), refused?
+pub fn wrong_run(before: u16, count: u16) -> bool
+    ensures { λ r. ⌜ r ≡ wrongRun before count ⌝ }
+{
+    if count == 0 {
+        return true;
+    }
+    if 0 < before {
+        return before < 65535;
+    }
+    false
+}
+
 // A run at a place, after another of so many NOPs, or after none.
 fn run_at(at: usize, before: u16, count: u16) -> Found
     requires { ⌜ at + 3 < 18446744073709551616 ⌝ }
     ensures { λ r. ⌜ stepIn r ≡ runStep at before count ⌝ }
 {
-    if count == 0 {
+    if wrong_run(before, count) {
         return refused(Refusal::Run, at, before);
-    }
-    if 0 < before {
-        if before < 65535 {
-            return refused(Refusal::Run, at, before);
-        }
     }
     Found {
         item: Item::Run(count),

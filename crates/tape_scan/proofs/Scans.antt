@@ -14,7 +14,7 @@ use Rattle.tape_scan.specs.Scan.{stoppedOf, scannedAfter}
 abbrev pub rest : List ℕ → ℕ → ℕ → Contents
 rest tape at before = contentsFrom (length tape) tape at before
 
-goes : (tape : List ℕ) (at before : ℕ) → goesOn (stepOf tape at before .answer) ≡ true
+pub goes : (tape : List ℕ) (at before : ℕ) → goesOn (stepOf tape at before .answer) ≡ true
     → rest tape at before
     ≡ record {
       slots = slotsOf (stepOf tape at before .answer) ++ rest tape (stepOf tape at before .at) (stepOf tape at before .before) .slots;
@@ -22,7 +22,7 @@ goes : (tape : List ℕ) (at before : ℕ) → goesOn (stepOf tape at before .an
     }
 goes tape at before g = steps .unfolds tape at before ∙ rw g
 
-stops : (tape : List ℕ) (at before : ℕ) → goesOn (stepOf tape at before .answer) ≡ false → rest tape at before ≡ record { slots = []; last = stepOf tape at before .answer }
+pub stops : (tape : List ℕ) (at before : ℕ) → goesOn (stepOf tape at before .answer) ≡ false → rest tape at before ≡ record { slots = []; last = stepOf tape at before .answer }
 stops tape at before g = steps .unfolds tape at before ∙ rw g
 
 -- a record that is read takes the reader on

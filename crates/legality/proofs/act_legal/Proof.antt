@@ -16,7 +16,8 @@ use Rattle.device.specs.Rules.{R7, allHold, legalOf}
 use Rattle.device.proofs.Alike.{in-four}
 use Rattle.ages.specs.Ages.{pastOf, byAges}
 use Rattle.ages.proofs.Record.{open-here}
-use Rattle.legality.proofs.Hold.{act-is, passed, failed, true-and}
+use Rattle.device.proofs.Tests.{passed, failed, true-and}
+use Rattle.legality.proofs.Hold.{act-is}
 
 -- R1's bank was passed
 in-range : (c : tie.Else1) → ltb (c .before .before .before .args .bank .0) (2 ^ (c .before .before .before .args .c .geometry .banks)) ≡ true

@@ -8,7 +8,7 @@ use lib.ListN.{getD}
 use Rattle.legality.proofs.all_apart.Statement.{statement}
 use Rattle.legality.proofs.all_apart.Tie as tie
 use Rattle.device.specs.Rules.{R7}
-use Rattle.legality.proofs.Hold.{passed, failed}
+use Rattle.device.proofs.Tests.{passed, failed}
 
 -- what bank n has to keep
 abbrev Kept : tie.Start → ℕ → Type 0

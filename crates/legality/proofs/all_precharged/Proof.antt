@@ -2,7 +2,8 @@
 use borrow.Author.Needs.{needs}
 use Rattle.legality.proofs.all_precharged.Statement.{statement}
 use Rattle.legality.proofs.all_precharged.Tie as tie
-use Rattle.legality.proofs.Hold.{precharged-is, passed, failed}
+use Rattle.device.proofs.Tests.{passed, failed}
+use Rattle.legality.proofs.Hold.{precharged-is}
 use borrow.Author.Tests.{le-leb, lt-leb}
 
 settled-requires : tie.Need-settled-requires

@@ -2,7 +2,8 @@
 use borrow.Author.Needs.{needs}
 use Rattle.legality.proofs.deac_legal.Statement.{statement}
 use Rattle.legality.proofs.deac_legal.Tie as tie
-use Rattle.legality.proofs.Hold.{deac-is, passed, failed}
+use Rattle.device.proofs.Tests.{passed, failed}
+use Rattle.legality.proofs.Hold.{deac-is}
 
 settled-requires : tie.Need-settled-requires
 settled-requires c κs = search needs

@@ -13,7 +13,8 @@ use Rattle.command.specs.declared.Command.the-variants.{Read}
 use Rattle.device.proofs.Alike.{in-four}
 use Rattle.ages.proofs.Record.{open-here}
 use Rattle.legality.specs.Verdict.{Verdict}
-use Rattle.legality.proofs.Hold.{read-is, passed, failed}
+use Rattle.device.proofs.Tests.{passed, failed}
+use Rattle.legality.proofs.Hold.{read-is}
 
 -- R1's bank was passed
 in-range : (c : tie.Else1) → ltb (c .before .before .before .args .bank .0) (2 ^ (c .before .before .before .args .c .geometry .banks)) ≡ true

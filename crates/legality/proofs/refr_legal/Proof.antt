@@ -3,7 +3,7 @@ use borrow.Author.Needs.{needs}
 use Rattle.legality.proofs.refr_legal.Statement.{statement}
 use Rattle.legality.proofs.refr_legal.Tie as tie
 use Rattle.device.proofs.Parts.{refr-parts}
-use Rattle.legality.proofs.Hold.{passed, failed}
+use Rattle.device.proofs.Tests.{passed, failed}
 
 all-precharged-requires : tie.Need-all-precharged-requires
 all-precharged-requires c κs = search needs

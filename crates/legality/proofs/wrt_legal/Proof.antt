@@ -3,7 +3,8 @@ use borrow.Author.Needs.{needs}
 use borrow.Author.Tests.{not-false}
 use Rattle.legality.proofs.wrt_legal.Statement.{statement}
 use Rattle.legality.proofs.wrt_legal.Tie as tie
-use Rattle.legality.proofs.Hold.{wrt-is, failed}
+use Rattle.device.proofs.Tests.{failed}
+use Rattle.legality.proofs.Hold.{wrt-is}
 
 read-legal-requires : tie.Need-read-legal-requires
 read-legal-requires c κs = search needs

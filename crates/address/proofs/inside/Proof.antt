@@ -6,8 +6,8 @@ use Prim.Native.Nat.{_^_}
 use mathlib.Core.Path.{ap, _∙_}
 use lib.Dec.{lit<, ltb}
 use lib.Pow.{shl-exact}
-use Rattle.legality.proofs.inside.Statement.{statement}
-use Rattle.legality.proofs.inside.Tie as tie
+use Rattle.address.proofs.inside.Statement.{statement}
+use Rattle.address.proofs.inside.Tie as tie
 
 shl-result : tie.Need-shl-result
 shl-result c = search needs
