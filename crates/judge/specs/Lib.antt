@@ -1,0 +1,4 @@
+-- The judge of tapes.
+pub mod Judge
+pub mod Laws
+pub mod Halted

@@ -1,0 +1,2 @@
+-- The parts of the word.
+pub mod Words

@@ -1,0 +1,3 @@
+-- The judge's answer as one word.
+pub mod Word
+pub mod Laws

@@ -1,0 +1,3 @@
+-- Our own machine's tapes.
+pub mod Bus
+pub mod Own

@@ -1,0 +1,2 @@
+-- Our own machine's tapes.
+pub mod Own

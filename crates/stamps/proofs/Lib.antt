@@ -1,0 +1,3 @@
+-- What the code stores, and its agreement with the plain SDRAM's history.
+pub mod Noted
+pub mod Agree

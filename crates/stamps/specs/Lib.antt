@@ -1,0 +1,2 @@
+-- The past commands as the slots of the last ones.
+pub mod Stamps

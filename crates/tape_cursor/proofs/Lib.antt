@@ -1,0 +1,2 @@
+-- Each kind of record.
+pub mod Records

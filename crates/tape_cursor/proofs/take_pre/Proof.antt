@@ -1,0 +1,71 @@
+use borrow.Author.Needs.{needs}
+use native.Mathlib.Omega.{arith}
+use lib.Dec.{lit≤}
+use Rattle.tape.specs.Reading.{bodyLength}
+use Rattle.device.proofs.Tests.{told}
+use Rattle.tape_cursor.proofs.Records.{pre-four, pre-step, cut-halts, legal-sent, illegal-halts}
+use Rattle.tape_cursor.proofs.take_pre.Statement.{statement}
+use Rattle.tape_cursor.proofs.take_pre.Tie as tie
+
+sub-if1 : tie.Need-sub-if1
+sub-if1 c = search needs
+
+halted-requires : tie.Need-halted-requires
+halted-requires c κs = search needs
+
+returns : tie.Need-returns
+unfolding bodyLength
+returns c =
+    let s = c .before .before .before .before in
+    (rw (c .halted .ensures) (cut-halts (s .args .c) (s .args .last .now) (s .args .tape .now) (s .args .p) (s .pre .1) (lit≤ tt) (c .before .if1 .taken)), rw (c .halted .ensures) (omega arith))
+
+add-t6 : tie.Need-add-t6
+add-t6 c = search needs
+
+shared-slice-read-t10 : tie.Need-shared-slice-read-t10
+shared-slice-read-t10 c = search needs
+
+pre-legal-requires : tie.Need-pre-legal-requires
+pre-legal-requires c κs = search needs
+
+note-pre-requires : tie.Need-note-pre-requires
+note-pre-requires c κs =
+    let at-legal = c .before .before in
+    let s = at-legal .before .before .before .before .before .before .before in
+    (s .pre .0 .places, pre-four (s .args .c) (s .pre .0 .accepted) _ _ (told (at-legal .pre-legal .ensures) (c .before .if2 .taken)))
+
+sent-requires : tie.Need-sent-requires
+sent-requires c κs = search needs
+
+returns-2 : tie.Need-returns-2
+returns-2 c =
+    let at-legal = c .before .before .before .before in
+    let at-if1 = at-legal .before .before .before .before in
+    let s = at-if1 .before .before .before in
+    (rw (c .sent .ensures) (legal-sent (s .args .c) (s .args .last .now) (s .args .tape .now) (s .args .p) _ 2 (pre-step (s .pre .1) (at-if1 .if1 .left)) (told (at-legal .pre-legal .ensures) (c .before .before .before .if2 .taken)) (c .before .note-pre .ensures)), rw (c .sent .ensures) (omega arith))
+
+halted-requires-2 : tie.Need-halted-requires-2
+halted-requires-2 c κs = search needs
+
+returns-3 : tie.Need-returns-3
+returns-3 c =
+    let at-legal = c .before .before in
+    let at-if1 = at-legal .before .before .before .before in
+    let s = at-if1 .before .before .before in
+    (rw (c .halted2 .ensures) (illegal-halts (s .args .c) (s .args .last .now) (s .args .tape .now) (s .args .p) _ 2 (pre-step (s .pre .1) (at-if1 .if1 .left)) (told (at-legal .pre-legal .ensures) (c .before .if2 .left))), rw (c .halted2 .ensures) (omega arith))
+
+pub take-pre-spec : {M : Type 1} → statement M
+take-pre-spec =
+    tie.close
+    (tie.spec
+    sub-if1
+    halted-requires
+    returns
+    add-t6
+    shared-slice-read-t10
+    pre-legal-requires
+    note-pre-requires
+    sent-requires
+    returns-2
+    halted-requires-2
+    returns-3)

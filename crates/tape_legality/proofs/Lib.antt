@@ -1,0 +1,2 @@
+-- What makes each command legal by the stamps.
+pub mod Hold

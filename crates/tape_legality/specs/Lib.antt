@@ -1,0 +1,2 @@
+-- What the code tests.
+pub mod Tests

@@ -1,0 +1,3 @@
+-- The walk over rules and banks.
+pub mod Grid
+pub mod Steps
