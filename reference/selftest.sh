@@ -1,5 +1,5 @@
 #!/bin/sh
-# selftest.sh PROGRAM: the sound program against the examples and against generated scripts and tapes.
+# selftest.sh PROGRAM: the sound program against the examples and against generated scripts, tapes and cases.
 # Prints a line for each part and ends with status 1 at the first thing that is wrong.
 set -eu
 cd "$(dirname "$0")"
@@ -47,12 +47,41 @@ for tape in examples/*.tape; do
 done
 echo "examples of tapes: $pairs as expected"
 
+# --- Examples of cases: `judge-cases` and `check-cases` both print the expected lines, and `judge` prints that of each alone.
+cases=0
+for file in examples/*.cases; do
+    name=${file%.cases}
+    for command in judge-cases check-cases; do
+        "$program" $command <"$file" >$work/lines || wrong "$command ends with $? on $file"
+        cmp -s $work/lines "$name.judged" || wrong "$command differs on $file"
+    done
+    if command -v python3 >/dev/null; then
+        rm -rf $work/split
+        mkdir $work/split
+        python3 split-cases.py "$file" $work/split
+        n=0
+        while read -r line; do
+            n=$((n + 1))
+            status=0
+            # shellcheck disable=SC2046
+            got=$("$program" judge $(cat $work/split/$n.words) <$work/split/$n.tape) || status=$?
+            [ "$got" = "$line" ] || wrong "judge differs on case $n of $file: $got"
+            case "$status $line" in
+            '0 judge 0 0 0 0' | '1 judge 0 '[1-9]* | '1 judge '[1-9]*) ;;
+            *) wrong "judge ends with $status on case $n of $file: $line" ;;
+            esac
+        done <"$name.judged"
+    fi
+    cases=$((cases + $(wc -l <"$name.judged")))
+done
+echo "examples of cases: $cases as expected"
+
 # --- The stored examples are those that make-examples.py writes.
 if command -v python3 >/dev/null; then
     mkdir -p $work/examples
     cp examples/make-examples.py $work/examples/
     python3 $work/examples/make-examples.py
-    for file in examples/*.script examples/*.expected examples/*.tape examples/*.shown examples/*.damaged; do
+    for file in examples/*.script examples/*.expected examples/*.tape examples/*.shown examples/*.damaged examples/*.cases examples/*.judged; do
         cmp -s "$file" "$work/$file" || wrong "$file is not what make-examples.py writes"
     done
 fi
@@ -168,6 +197,44 @@ for shape in '4096 0' '4095 1' '4096 5' '1 400' '333 0'; do
 done
 echo "tapes: a run of 65528 slots goes on over rows and single slots"
 
+# --- The judge on the table of rule cases: each gets the line that stands in the table, and legality.c and sdram.c say the same.
+"$program" rule-cases >$work/cases
+"$program" rule-lines >$work/lines
+"$program" judge-cases <$work/cases >$work/got
+cmp $work/got $work/lines >$work/message || wrong "a rule case gets another line: $(cat $work/message)"
+"$program" check-cases <$work/cases | cmp -s - $work/lines || wrong "check-cases differs on the rule cases"
+
+# comes_by LINES LEAST: accepted tapes, and each rule with each bank that it can name, so often each; status 1 and the first that is missing.
+comes_by() {
+    awk -v least="$2" 'function want(what, illegal, rule, bank) { if (seen[0, illegal, rule, bank] < least) { print what; exit 1 } }
+        { seen[$2, $3 > 0, $4, $5]++ }
+        END {
+            want("accepted tapes", 0, 0, 0)
+            for (rule = 1; rule <= 16; rule++)
+                for (bank = 0; bank <= (rule <= 3 || rule == 10 || rule == 15 ? 0 : 3); bank++) want("R" rule " of bank " bank, 1, rule, bank)
+        }' "$1"
+}
+missing=$(comes_by $work/lines 5) || wrong "the rule cases do not come by $missing"
+echo "judge: $(wc -l <$work/lines) rule cases get the lines of the table, which come by every rule and every bank that it can name"
+
+# --- The judge on random cases: the claims of document 02, (v).
+: >$work/all-lines
+for seed in 1 2 3 4 5 6 7 8; do
+    ./judge.sh "$program" $seed 2000 >$work/message || wrong "judge, seed $seed: $(cat $work/message)"
+    "$program" cases $seed 2000 >$work/cases
+    "$program" cases $seed 2000 | cmp -s - $work/cases || wrong "seed $seed gives two case files"
+    "$program" cases $seed 100 | cmp -s -n "$("$program" cases $seed 100 | wc -c)" - $work/cases || wrong "seed $seed: the first cases depend on how many follow"
+    "$program" judge-cases <$work/cases >>$work/all-lines
+done
+missing=$(comes_by $work/all-lines 10) || wrong "the random cases do not come by $missing"
+for number in 1 2 3 11 12 13; do
+    [ "$(grep -c "^judge $number 0 0 0\$" $work/all-lines)" -ge 100 ] || wrong "the random cases do not come by number $number"
+done
+accepted=$(grep -c '^judge 0 0 0 0$' $work/all-lines)
+illegal=$(grep -c '^judge 0 [1-9]' $work/all-lines)
+echo "judge: every claim holds on 8 times 2000 random cases, $accepted of them accepted, $illegal illegal by every rule, the others refused, on as many tapes of our own, and" \
+    "on tapes of 2^32 slots and of 16,777,216 bytes and one more"
+
 # --- What a person is told.
 # says STATUS TEXT COMMAND ..: on the input in $work/script
 says() {
@@ -177,7 +244,7 @@ says() {
     status=0
     "$program" "$@" <$work/script >/dev/null 2>$work/message || status=$?
     [ $status = "$expected" ] || wrong "$* ends with $status, not $expected"
-    grep -q "$text" $work/message || wrong "$* does not say '$text': $(cat $work/message)"
+    [ -z "$text" ] || grep -q "$text" $work/message || wrong "$* does not say '$text': $(cat $work/message)"
 }
 cp examples/tape-only-slots.script $work/script
 says 0 'line 25 is a second accepted config' tape
@@ -193,3 +260,24 @@ says 2 usage random-tape 1
 says 2 usage rules 1
 says 2 usage spoil 1x
 echo "tapes: messages and statuses"
+"$program" cases 1 3 >$work/cases
+"$program" judge-cases <$work/cases >$work/lines
+length=$(wc -c <$work/cases)
+for cut in $((length - 1)) $((length - 100)) 19; do
+    head -c $cut $work/cases >$work/script
+    for command in judge-cases check-cases; do
+        says 2 'ends within case [13]: give it whole' $command
+        "$program" $command <$work/script 2>/dev/null >$work/got || true
+        head -n "$(wc -l <$work/got)" $work/lines | cmp -s - $work/got || wrong "$command gives other lines where the file is cut"
+    done
+done
+: >$work/script
+"$program" judge-cases <$work/script | cmp -s - $work/script || wrong "judge-cases gives lines for no cases"
+says 0 '' judge-cases
+says 0 '' judge 0x4400 0x0 0x1b 0
+says 1 '' judge 0x4400 0 26 0
+for words in '' '0x4400 0 27' '0x4400 0 27 0 0' '0x4400 0 27 4294967296' '0x4400 0 27 0x100000000' '0x4400 0 27 0x' '0X4400 0 27 0' '-1 0 27 0' '17408 0 27 x'; do
+    # shellcheck disable=SC2086
+    says 2 usage judge $words
+done
+echo "judge: messages and statuses"

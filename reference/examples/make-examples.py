@@ -36,6 +36,18 @@ def tape(name, records, shown=None, damaged=None):
             store_lines(name + ending, lines)
 
 
+def judged(name, cases):
+    """A case file, given by the words, the tape's bytes in hexadecimal, and the answer: number, slot, rule, bank."""
+    content = []
+    for words, records, _ in cases:
+        tape_bytes = bytes.fromhex(records)
+        for number in [int(word, 0) for word in words.split()] + [len(tape_bytes)]:
+            content.append(number.to_bytes(4, "little"))
+        content.append(tape_bytes)
+    store_lines(name + ".cases", content)
+    store_lines(name + ".judged", ["judge " + answer for _, _, answer in cases])
+
+
 def dialogue(name, pairs):
     """A script given as pairs of a line and its answer, which may have several lines."""
     store(name, [line for line, _ in pairs], [answer for _, answer in pairs if answer is not None])
@@ -855,6 +867,166 @@ def tapes():
          ["change 2 %d end %d" % (value, 1 + 256 * value) for value in range(256)])
 
 
+LEGAL = "0 0 0 0"
+
+
+def judge_e5():
+    """Document 02, (v). E5's tape on E1's device, all distances 1 and CL 2; one bank. MRS is in 226, so ACT is legal from 228 on."""
+    nops, start, mrs, nop = "00 d8 00", "05" + 8 * "06", "07 20 00", "00 01 00"
+    act, wrt, read, pre, deac, refr = "01 00 00 00", "03 00 00 00 07 00", "02 00 00 00", "04 00", "05", "06"
+    begin = nops + start + mrs + nop
+    judged("judge-E5", [
+        (E1_WORDS, begin + act + wrt + read + "00 0a 00", LEGAL),           # the whole of tape-E5
+        (E1_WORDS, start + mrs + nop + act + wrt, LEGAL),                   # the record in document 02, as a tape of its own
+        (E1_WORDS, begin + act + wrt + read + deac + refr, LEGAL),          # every distance is kept in the next slot
+        (E1_WORDS, begin + act + read + "00 03 00" + wrt, LEGAL),           # CL + 2
+        (E1_WORDS, nops + start + nop + act + wrt, "0 227 3 0"),            # no MRS
+        (E1_WORDS, nops + start + mrs + act + wrt, "0 227 2 0"),            # no NOP after it
+        (E1_WORDS, begin + wrt, "0 228 8 0"),
+        (E1_WORDS, begin + act + wrt + act, "0 230 4 0"),
+        (E1_WORDS, begin + act + read + "00 02 00" + wrt, "0 232 10 0"),    # CL + 1
+        (E1_WORDS, begin + pre, "0 228 11 0"),
+        (E1_WORDS, begin + act + wrt + refr, "0 230 14 0"),
+        (E1_WORDS, begin + act + wrt + nop + mrs, "0 231 14 0"),
+        (E1_WORDS, begin + act + wrt + pre + act + pre + "04 01", "0 233 1 0"),     # bank 1 of one bank
+        ("0x4600 0 28 0", begin + act + wrt + read, "0 226 1 0"),           # CL 3, so the MRS word should be 48
+        (E4_WORDS, begin + act + wrt + read, "0 218 15 0")])                # tRP 3
+
+
+def judge_e7():
+    """The tape of tape-E7 with a run one slot shorter each, which is one slot too early for what follows it; tRFC 9, tRP 3, tRCD 3, tWR 2, tRAS 6, tRC 9,
+    tRRD 2. DEAC 1089, REFR 1092, 1101, .. 1155, MRS 1164, ACT 1166, WRT 1169, PRE 1172, ACT 1175, WRT 1178."""
+    words = "0x4623 4 136 0x42215810"
+    parts = ["00 40 04", "05", "00 02 00", "06"] + 7 * ["00 08 00", "06"] + [
+        "00 08 00", "07 30 00", "00 01 00", "01 03 ff 1f", "00 02 00", "03 03 ff 07 cd ab", "00 02 00", "04 03", "00 02 00", "01 03 fe 1f",
+        "00 02 00", "03 03 fe 07 34 12"]
+    whole = "".join(parts)
+
+    def shorter(run):
+        """The tape with its run of this number, counted from 0, one slot shorter."""
+        place = [n for n, part in enumerate(parts) if part.startswith("00")][run]
+        count = int(parts[place][3:5], 16) - 1
+        return "".join(parts[:place] + (["00 %02x 00" % count] if count > 0 else []) + parts[place + 1:])
+
+    judged("judge-E7", [
+        (words, whole, LEGAL),
+        (words, "00 3f 04" + "".join(parts[1:]), LEGAL),            # the judge does not ask how long the first wait is
+        (words, shorter(1), "0 1091 15 0"),                         # tRP
+        (words, shorter(2), "0 1100 2 0"),                          # tRFC
+        (words, shorter(8), "0 1154 2 0"),
+        (words, shorter(9), "0 1163 2 0"),                          # MRS
+        (words, shorter(10), "0 1165 2 0"),                         # 2 slots after it
+        (words, shorter(11), "0 1168 9 3"),                         # tRCD
+        (words, shorter(12), "0 1171 12 3"),                        # tRAS; tWR is over
+        (words, shorter(13), "0 1174 5 3"),                         # tRP before tRC
+        (words, shorter(14), "0 1177 9 3"),
+        # tRC 10 in place of 9: A 29, F 9 + 10, so RR 136 is too short and 143 is the least; the second ACT is 9 after the first.
+        ("0x4623 4 142 0x42215910", whole, "3 0 0 0"), ("0x4623 4 143 0x42215910", whole, "0 1175 6 3"),
+        # tWR 4: the PRE is 3 after the WRT. tWR 3: it is legal.
+        ("0x4623 4 136 0x42235810", whole, "0 1172 13 3"), ("0x4623 4 136 0x42225810", whole, LEGAL),
+        # 2 banks; 12 row bits; 10 column bits.
+        ("0x4613 4 136 0x42215810", whole, "0 1166 1 0"), ("0x4623 3 136 0x42215810", whole, "0 1166 1 0"),
+        ("0x4622 4 136 0x42215810", whole, "0 1169 1 0")])
+
+
+def judge_numbers():
+    """Each number, and their order."""
+    illegal = "02 00 00 00"                                         # READ of a closed bank, R8
+    judged("judge-numbers", [
+        (E1_WORDS, "", LEGAL), (E1_WORDS, "00 01 00", LEGAL), (E1_WORDS, "00 ff ff 00 ff ff", LEGAL), (E1_WORDS, illegal, "0 1 8 0"),
+        # The words, whatever the tape is.
+        ("0x4408 0 27 0", "", "1 0 0 0"), ("0x4400 8 27 0", illegal, "1 0 0 0"), ("0x4400 0 0x201B 0", "08", "1 0 0 0"),
+        ("0x4400 0 27 1", illegal + "08", "1 0 0 0"), ("0x4430 0 27 0", "", "2 0 0 0"), ("0x4400 5 27 0", illegal, "2 0 0 0"),
+        ("0 0 0 0", "01", "2 0 0 0"), ("0x4400 0 26 0", "", "3 0 0 0"), ("0x4400 0 26 0", illegal, "3 0 0 0"), ("0x4400 0 26 0", "00 00 00", "3 0 0 0"),
+        # The reader's refusals, before, behind and without an illegal slot.
+        (E1_WORDS, "08", "11 0 0 0"), (E1_WORDS, "08" + illegal, "11 0 0 0"), (E1_WORDS, illegal + "ff", "11 0 0 0"),
+        (E1_WORDS, "05 04", "12 0 0 0"), (E1_WORDS, illegal + "03 00 00 00 00", "12 0 0 0"), (E1_WORDS, illegal + "00 01", "12 0 0 0"),
+        (E1_WORDS, "00 00 00", "13 0 0 0"), (E1_WORDS, "00 00 00" + illegal, "13 0 0 0"), (E1_WORDS, illegal + "00 05 00 00 05 00", "13 0 0 0"),
+        (E1_WORDS, "00 fe ff 00 01 00", "13 0 0 0"), (E1_WORDS, illegal + "00 ff ff 00 00 00", "13 0 0 0"),
+        # The first of several, by its place.
+        (E1_WORDS, "00 00 00 08", "13 0 0 0"), (E1_WORDS, "08 00 00 00", "11 0 0 0"), (E1_WORDS, "00 00 00" + illegal + "04", "13 0 0 0"),
+        # The first illegal slot of several.
+        (E1_WORDS, illegal + "05 04 00", "0 1 8 0"), (E1_WORDS, "05 04 00 01 00 00 00", "0 2 11 0"), (E1_WORDS, "00 02 00 01 00 00 00" + illegal, "0 3 3 0")])
+
+
+def judge_order():
+    """Several rules or banks at once; 4 banks, 8 column bits, 13 row bits, CL 2. Every tape begins with MRS in slot 1, one NOP, and ACTs from slot 3 on."""
+    slow = "0x4420 4 208 0x5377BF10"        # tRFC 11, tRP 4, tRCD 8, tWR 8, tRAS 12, tRC 16, tRRD 2: M 12, A 46, F 27: least RR 208
+    quick = "0x4420 4 168 0x31024F10"       # tRFC 7, tRP 2, tRCD 1, tWR 3, tRAS 5, tRC 16, tRRD 2: M 5, A 30, M + tRP 7, F 23: least RR 168
+    mrs = "07 20 00 00 01 00"
+    act = ["01 %02x 00 00" % bank for bank in range(4)]
+    wrt = ["03 %02x 00 00 00 00" % bank for bank in range(4)]
+    read = ["02 %02x 00 00" % bank for bank in range(4)]
+    pre = ["04 %02x" % bank for bank in range(4)]
+    deac, refr, other_mrs = "05", "06", "07 30 00"
+
+    def wait(slots):
+        return "00 %02x 00" % slots
+
+    judged("judge-order", [
+        # R13 of bank 0 and R12 of bank 3: ACT 0 in 3, ACT 3 in 30, WRT 0 in 31, DEAC in 32. The lower rule, in whatever bank.
+        (slow, mrs + act[0] + wait(26) + act[3] + wrt[0] + deac, "0 32 12 3"),
+        # The other way round: R12 of bank 0 and R13 of bank 3.
+        (slow, mrs + act[3] + wait(26) + act[0] + wrt[3] + deac, "0 32 12 0"),
+        # R13 of both, R12 of neither: ACT 1 in 3, ACT 2 in 5, WRT 2 in 30, WRT 1 in 31, DEAC in 32. The lower bank.
+        (slow, mrs + act[1] + wait(1) + act[2] + wait(24) + wrt[2] + wrt[1] + deac, "0 32 13 1"),
+        # The same 7 later, when it is 8 slots after the WRT to bank 2, and 8 later: legal.
+        (slow, mrs + act[1] + wait(1) + act[2] + wait(24) + wrt[2] + wrt[1] + wait(6) + deac, "0 38 13 1"),
+        (slow, mrs + act[1] + wait(1) + act[2] + wait(24) + wrt[2] + wrt[1] + wait(7) + deac, LEGAL),
+        # R12 of three banks, of two, of one: ACT 3 in 3, ACT 1 in 5, ACT 2 in 7; tRAS is over in 15, 17 and 19.
+        (slow, mrs + act[3] + wait(1) + act[1] + wait(1) + act[2] + wait(6) + deac, "0 14 12 1"),
+        (slow, mrs + act[3] + wait(1) + act[1] + wait(1) + act[2] + wait(8) + deac, "0 16 12 1"),
+        (slow, mrs + act[3] + wait(1) + act[1] + wait(1) + act[2] + wait(9) + deac, "0 17 12 2"),
+        (slow, mrs + act[3] + wait(1) + act[1] + wait(1) + act[2] + wait(11) + deac, LEGAL),
+        # PRE looks at its bank alone: bank 3's tRAS is over in 15, bank 1's is not.
+        (slow, mrs + act[3] + wait(1) + act[1] + wait(9) + pre[3], LEGAL), (slow, mrs + act[3] + wait(1) + act[1] + wait(9) + pre[1], "0 15 12 1"),
+        # R14 of banks 1 and 3, for REFR and for MRS; and before R15, which PRE 1 breaks in the slot before.
+        (slow, mrs + act[3] + wait(1) + act[1] + wait(40) + refr, "0 46 14 1"), (slow, mrs + act[3] + wait(1) + act[1] + wait(40) + "07 20 00", "0 46 14 1"),
+        (slow, mrs + act[3] + wait(1) + act[1] + wait(40) + pre[1] + refr, "0 47 14 3"),
+        # R1 before R14 and before R2; R2 before R3, R3 before R5.
+        (slow, mrs + act[3] + wait(40) + other_mrs, "0 44 1 0"), (slow, "07 20 00 07 30 00", "0 2 1 0"), (slow, refr + act[2], "0 2 2 0"),
+        (slow, deac + act[2], "0 2 3 0"),
+        # R4 before R6 and R7: ACT 2 in 3, ACT 1 in 5, ACT 2 in 6.
+        (slow, mrs + act[2] + wait(1) + act[1] + act[2], "0 6 4 2"),
+        # R7 by bank 2 and by bank 0, each the command's bank: ACT in 4 is one slot after the other's.
+        (slow, mrs + act[2] + act[1], "0 4 7 1"), (slow, mrs + act[0] + act[3], "0 4 7 3"), (slow, mrs + act[0] + wait(1) + act[3], LEGAL),
+        # R8 and R9 before R10: READ 0 in 44, WRT in 45, to a closed bank and to one whose ACT is in 43. Then R10 alone, of bank 0 and of bank 3.
+        (slow, mrs + act[0] + wait(40) + read[0] + wrt[3], "0 45 8 3"), (slow, mrs + act[0] + wait(39) + act[3] + read[0] + wrt[3], "0 45 9 3"),
+        (slow, mrs + act[0] + wait(40) + read[0] + wait(2) + wrt[0], "0 47 10 0"),
+        (slow, mrs + act[0] + wait(1) + act[3] + wait(38) + read[0] + wait(2) + wrt[3], "0 47 10 0"),
+        (slow, mrs + act[0] + wait(1) + act[3] + wait(38) + read[0] + wait(3) + wrt[3], LEGAL),
+        # R16 of banks 1 and 2: ACT 2 in 3, ACT 1 in 5, DEAC in 10, REFR in 12; of bank 1 alone in 19; in 21 legal. R15 before it in 11. MRS does not have it.
+        (quick, mrs + act[2] + wait(1) + act[1] + wait(4) + deac + wait(1) + refr, "0 12 16 1"),
+        (quick, mrs + act[1] + wait(1) + act[2] + wait(4) + deac + wait(1) + refr, "0 12 16 1"),
+        (quick, mrs + act[1] + wait(1) + act[2] + wait(4) + deac + wait(8) + refr, "0 19 16 2"),
+        (quick, mrs + act[1] + wait(1) + act[2] + wait(4) + deac + wait(10) + refr, LEGAL),
+        (quick, mrs + act[2] + wait(1) + act[1] + wait(4) + deac + refr, "0 11 15 0"),
+        (quick, mrs + act[2] + wait(1) + act[1] + wait(4) + deac + wait(1) + "07 20 00", LEGAL),
+        # R5 before R6: ACT 2 in 3, PRE 2 in 8, ACT 2 in 9; in 10 R6; in 19 legal.
+        (quick, mrs + act[2] + wait(4) + pre[2] + act[2], "0 9 5 2"), (quick, mrs + act[2] + wait(4) + pre[2] + wait(1) + act[2], "0 10 6 2"),
+        (quick, mrs + act[2] + wait(4) + pre[2] + wait(10) + act[2], LEGAL),
+        # Bank 0 where no bank is asked for: R2 and R3 by bank 3, R15 by PRE 3.
+        (quick, "07 20 00" + act[3], "0 2 2 0"), (quick, act[3], "0 1 3 0"), (quick, mrs + act[3] + wait(40) + pre[3] + refr, "0 45 15 0")])
+
+
+def judge_runs():
+    """Full runs: slots are counted in full, and no run is as short as a distance. tRFC 7, tRP 2, tRCD 4, tWR 3, tRAS 5, tRC 12, tRRD 6, CL 2, 4 banks."""
+    words = "0x4420 4 147 0x31324B50"
+    full, mrs = "00 ff ff", "07 20 00 00 01 00"
+    judged("judge-runs", [
+        (words, full + "02 03 00 00", "0 65536 8 3"), (words, "00 fe ff" + "02 03 00 00", "0 65535 8 3"),
+        (words, 2 * full + "04 02", "0 131071 11 2"), (words, 2 * full + "00 01 00" + "04 02", "0 131072 11 2"),
+        (words, 3 * full + mrs + "01 01 00 00" + "00 02 00" + "02 01 00 00", "0 196611 9 1"),          # MRS 196606, ACT 196608, tRCD over in 196612
+        # From a command to the next: 65,536 and 65,537 slots, 131,071 and 131,072. Every distance is kept.
+        (words, mrs + "01 01 00 00" + full + "04 01", LEGAL), (words, mrs + "01 01 00 00" + full + "00 01 00" + "04 01", LEGAL),
+        (words, mrs + "01 01 00 00" + 2 * full + "05", LEGAL), (words, mrs + "01 01 00 00" + 2 * full + "00 01 00" + "02 01 00 00", LEGAL),
+        (words, "06" + full + "06" + full + "07 20 00" + full + "00 01 00" + "06", LEGAL),
+        # The bank is as it was: ACT 1 in 3, then in 65539 and in 131075.
+        (words, mrs + "01 01 00 00" + full + "01 01 00 00", "0 65539 4 1"), (words, mrs + "01 01 00 00" + 2 * full + "00 01 00" + "06", "0 131075 14 1"),
+        # PRE 1 in 65539, ACT 1 in the next slot but one, and then one too early for tRRD.
+        (words, mrs + "01 01 00 00" + full + "04 01" + "00 01 00" + "01 01 00 00" + "00 04 00" + "01 03 00 00", "0 65546 7 3")])
+
+
 def last_number():
     """For a build whose last request number is 8: 6 comes before 7, and 7 stays."""
     run = e1_machine()
@@ -876,5 +1048,5 @@ if __name__ == "__main__":
     for example in (e5, e6, e7, e8, e9, e10, e11, e12, must_run, must_only_at_a_choice, need_with_blocked_read,
                     write_before_release, oldest_read_first, tight_distances, unlike_distances, row_cycle, row_cycle_other_bank, row_cycle_must_run,
                     row_cycle_least_rr, geometries, numbers, form, slots, slots_one_row, slots_must_run, slots_form, tape_e5, tape_e7,
-                    tape_only_slots, tapes, last_number):
+                    tape_only_slots, tapes, judge_e5, judge_e7, judge_numbers, judge_order, judge_runs, last_number):
         example()

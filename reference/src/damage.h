@@ -1,7 +1,7 @@
 /*
  * Damaged builds. `-DDAMAGE=NAME` builds the program with one thing wrong in its machine, in its
- * register words or in its tapes; the plain SDRAM, the flat memory and the claims stay as they are. The self-test wants
- * each of them found. An ordinary build is SOUND, and every line below then has no effect.
+ * register words, in its tapes or in its judge; the plain SDRAM, the flat memory and the claims stay as they are. The
+ * self-test wants each of them found. An ordinary build is SOUND, and every line below then has no effect.
  *
  * damages.sh takes the names from the enum, one a line.
  */
@@ -175,7 +175,122 @@ enum damage {
     RUN_COUNTS_ONE_SLOT,
     SLOT_FROM_0,
     SLOT_OF_RUNS_END,
-    SLOTS_OF_32_BITS
+    SLOTS_OF_32_BITS,
+
+    /* The judge: a rule forgotten, altogether or by one of its commands. */
+    JUDGE_FORGET_R1,
+    JUDGE_FORGET_R2,
+    JUDGE_FORGET_R3,
+    JUDGE_FORGET_R4,
+    JUDGE_FORGET_R5,
+    JUDGE_FORGET_R6,
+    JUDGE_FORGET_R7,
+    JUDGE_FORGET_R8,
+    JUDGE_FORGET_R9,
+    JUDGE_FORGET_R10,
+    JUDGE_FORGET_R11,
+    JUDGE_FORGET_R12,
+    JUDGE_FORGET_R13,
+    JUDGE_FORGET_R14,
+    JUDGE_FORGET_R15,
+    JUDGE_FORGET_R16,
+    JUDGE_ACT_WITHOUT_R1,
+    JUDGE_READ_WITHOUT_R1,
+    JUDGE_WRT_WITHOUT_R1,
+    JUDGE_PRE_WITHOUT_R1,
+    JUDGE_ACT_WITHOUT_R2,
+    JUDGE_READ_WITHOUT_R2,
+    JUDGE_WRT_WITHOUT_R2,
+    JUDGE_PRE_WITHOUT_R2,
+    JUDGE_DEAC_WITHOUT_R2,
+    JUDGE_REFR_WITHOUT_R2,
+    JUDGE_MRS_WITHOUT_R2,
+    JUDGE_READ_WITHOUT_R8,
+    JUDGE_WRT_WITHOUT_R8,
+    JUDGE_READ_WITHOUT_R9,
+    JUDGE_WRT_WITHOUT_R9,
+    JUDGE_PRE_WITHOUT_R12,
+    JUDGE_DEAC_WITHOUT_R12,
+    JUDGE_PRE_WITHOUT_R13,
+    JUDGE_DEAC_WITHOUT_R13,
+    JUDGE_REFR_WITHOUT_R14,
+    JUDGE_MRS_WITHOUT_R14,
+    JUDGE_REFR_WITHOUT_R15,
+    JUDGE_MRS_WITHOUT_R15,
+
+    /* Part of a rule forgotten, or more than the rule. */
+    JUDGE_R1_WITHOUT_BANK,
+    JUDGE_R1_WITHOUT_ROW,
+    JUDGE_R1_WITHOUT_COLUMN,
+    JUDGE_R1_WITHOUT_WORD,
+    JUDGE_R2_WITHOUT_REFR,
+    JUDGE_R2_WITHOUT_MRS,
+    JUDGE_R5_WITHOUT_PRE,
+    JUDGE_R5_WITHOUT_DEAC,
+    JUDGE_R5_BY_ANY_PRE,
+    JUDGE_R7_BY_ITS_BANK_TOO,
+    JUDGE_R10_BY_ITS_BANK,
+    JUDGE_R15_WITHOUT_PRE,
+    JUDGE_R15_WITHOUT_DEAC,
+    JUDGE_MRS_WITH_R16,
+
+    /* A rule's distance one slot short, or one slot long. */
+    JUDGE_SHORT_R2_REFR,
+    JUDGE_SHORT_R2_MRS,
+    JUDGE_SHORT_R5,
+    JUDGE_SHORT_R6,
+    JUDGE_SHORT_R7,
+    JUDGE_SHORT_R9,
+    JUDGE_SHORT_R10,
+    JUDGE_SHORT_R12,
+    JUDGE_SHORT_R13,
+    JUDGE_SHORT_R15,
+    JUDGE_SHORT_R16,
+    JUDGE_LONG_R2_REFR,
+    JUDGE_LONG_R2_MRS,
+    JUDGE_LONG_R5,
+    JUDGE_LONG_R6,
+    JUDGE_LONG_R7,
+    JUDGE_LONG_R9,
+    JUDGE_LONG_R10,
+    JUDGE_LONG_R12,
+    JUDGE_LONG_R13,
+    JUDGE_LONG_R15,
+    JUDGE_LONG_R16,
+
+    /* Which rule, and which bank. */
+    JUDGE_RULES_FALLING,
+    JUDGE_BANKS_FALLING,
+    JUDGE_BANKS_BEFORE_RULES,
+    JUDGE_R12_NAMES_COMMANDS_BANK, /* that is bank 0, as for the next three */
+    JUDGE_R13_NAMES_COMMANDS_BANK,
+    JUDGE_R14_NAMES_COMMANDS_BANK,
+    JUDGE_R16_NAMES_COMMANDS_BANK,
+    JUDGE_R7_NAMES_BANK_FOUND,
+    JUDGE_COMMANDS_BANK_IS_0, /* R4 to R9, and PRE's */
+    JUDGE_R1_NAMES_BANK, /* the command's, as for the next three */
+    JUDGE_R2_NAMES_BANK,
+    JUDGE_R3_NAMES_BANK,
+    JUDGE_R10_NAMES_BANK,
+    JUDGE_R15_NAMES_BANK, /* that of the PRE */
+
+    /* Which slot, and which number. */
+    JUDGE_SLOT_FROM_0,
+    JUDGE_SLOT_OF_32_BITS,
+    JUDGE_RUN_COUNTS_ONE_SLOT,
+    JUDGE_RUN_AGES_BY_ONE,
+    JUDGE_AGES_OF_16_BITS,
+    JUDGE_AGES_OF_32_BITS,
+    JUDGE_NOT_SENT_IS_SLOT_0,
+    JUDGE_LAST_ILLEGAL_SLOT,
+    JUDGE_RULE_OF_SLOT_AFTER,
+    JUDGE_REFUSAL_BEHIND_IGNORED, /* behind an illegal slot */
+    JUDGE_REFUSED_NAMES_SLOT,
+    JUDGE_REFUSAL_BEFORE_WORDS,
+    JUDGE_19_AT_LIMIT,
+    JUDGE_19_ONE_LATE,
+    JUDGE_19_BEFORE_WORDS,
+    JUDGE_19_AFTER_REFUSAL
 };
 
 #ifndef DAMAGE

@@ -5,10 +5,12 @@
 #include <stdio.h>
 #include <string.h>
 
+#include "configs.h"
 #include "machine.h"
 #include "random.h"
 #include "script.h"
 #include "sdram.h"
+#include "traffic.h"
 #include "words.h"
 
 /*
@@ -40,7 +42,7 @@ static uint32_t draw(struct author *a, uint32_t below)
 
 static bool once_in(struct author *a, uint32_t times)
 {
-    return draw(a, times) == 0;
+    return random_once_in(&a->random, times);
 }
 
 static uint16_t draw_halfword(struct author *a)
@@ -304,166 +306,7 @@ static void write_longest_bus_line(struct author *a)
     }
 }
 
-/* ---- Register words ---- */
-
-static const struct words named_bits = {0x4E77, 0x7, 0x1FFF, 0xFF77FF70};
-
-static const uint32_t tim_fields[] = {0xF8000000, 0x07000000, 0x00700000, 0x00070000,
-                                      0x0000F000, 0x00000F00, 0x00000070};
-enum { TIM_FIELDS = sizeof tim_fields / sizeof tim_fields[0] };
-
-static uint32_t draw_any_tim(struct author *a)
-{
-    uint32_t one_field = tim_fields[draw(a, TIM_FIELDS)];
-    uint32_t corner = 0;
-    unsigned n;
-
-    for (n = 0; n < TIM_FIELDS; n++)
-        if (once_in(a, 2))
-            corner |= tim_fields[n];
-    switch (draw(a, 8)) {
-    case 0:
-        return 0;
-    case 1:
-        return named_bits.tim;
-    case 2:
-        return one_field;
-    case 3:
-        return named_bits.tim & ~one_field;
-    case 4:
-        return (uint32_t)draw64(a) & named_bits.tim;
-    case 5:
-        return (uint32_t)draw64(a) & corner;
-    default:
-        return corner;
-    }
-}
-
-/*
- * tRC 13 to 16, tRP at most 2, tRAS and tRCD at most 4: a refresh that is chosen right after an access which
- * sent ACT has to wait for the row cycle, unless the access was a write and its tWR lasts longer.
- */
-static uint32_t with_long_row_cycle(uint32_t tim)
-{
-    return (tim & 0xF9373F70) | 0x00000C00;
-}
-
-/* tRFC weighs most in RR. It is kept short in two of three, so that more happens in as many calls. */
-static uint32_t draw_tim(struct author *a)
-{
-    uint32_t tim = draw_any_tim(a);
-    uint32_t high_bits_of_trfc = 0xE0000000;
-
-    if (once_in(a, 4))
-        tim = with_long_row_cycle(tim);
-    return once_in(a, 3) ? tim : tim & ~high_bits_of_trfc;
-}
-
-/* RR at its least or a little above it, so that the start is short; seldom a large one. */
-static uint32_t draw_rr(struct author *a, uint32_t least)
-{
-    switch (draw(a, 8)) {
-    case 0:
-    case 1:
-        return least + draw(a, 8);
-    case 2:
-        return least + draw(a, 200);
-    case 3:
-        if (once_in(a, 8) && a->calls_left > 1000000)
-            return least + draw(a, 8192 - least);
-        return least;
-    default:
-        return least;
-    }
-}
-
-enum { GEOMETRIES = 3 * 4 * 5 };
-
-/* IBANK 0 to 2, PAGESIZE 0 to 3, ROWSIZE 0 to 4. */
-static void set_geometry(struct words *w, uint32_t geometry)
-{
-    w->cfg = (w->cfg & ~UINT32_C(0x77)) | (geometry % 3) << 4 | (geometry / 3) % 4;
-    w->row = geometry / 12;
-}
-
-static struct words draw_words(struct author *a)
-{
-    struct words w;
-    struct configuration c;
-
-    w.cfg = 0x4000 | (2 + draw(a, 2)) << 9;
-    set_geometry(&w, draw(a, GEOMETRIES));
-    w.ref = named_bits.ref;
-    w.tim = draw_tim(a);
-    configure(w, &c);
-    w.ref = draw_rr(a, least_rr(&c));
-    return w;
-}
-
-static uint32_t draw_unnamed_bit(struct author *a, uint32_t named)
-{
-    uint32_t bit;
-
-    do {
-        bit = UINT32_C(1) << draw(a, 32);
-    } while ((bit & named) != 0);
-    return bit;
-}
-
-/* Spoils the words in one of the ways that numbers 1, 2 and 3 know. */
-static void spoil_words(struct author *a, struct words *w)
-{
-    struct configuration c;
-
-    configure(*w, &c);
-    switch (draw(a, 12)) {
-    case 0:
-        w->cfg |= draw_unnamed_bit(a, named_bits.cfg);
-        break;
-    case 1:
-        w->row |= draw_unnamed_bit(a, named_bits.row);
-        break;
-    case 2:
-        w->ref |= draw_unnamed_bit(a, named_bits.ref);
-        break;
-    case 3:
-        w->tim |= draw_unnamed_bit(a, named_bits.tim);
-        break;
-    case 4:
-        w->cfg &= ~UINT32_C(0x4000);
-        break;
-    case 5:
-        w->cfg = (w->cfg & ~UINT32_C(0xE00)) | ((4 + draw(a, 6)) % 8) << 9; /* CL 4 to 7, 0, 1 */
-        break;
-    case 6:
-        w->cfg = (w->cfg & ~UINT32_C(0x70)) | (3 + draw(a, 5)) << 4;
-        break;
-    case 7:
-        w->cfg = (w->cfg & ~UINT32_C(0x7)) | (4 + draw(a, 4));
-        break;
-    case 8:
-        w->row = (w->row & ~UINT32_C(0x7)) | (5 + draw(a, 3));
-        break;
-    case 9:
-        w->ref = draw(a, least_rr(&c));
-        break;
-    default:
-        w->ref = least_rr(&c) - 1;
-        break;
-    }
-}
-
 /* ---- The standalone map ---- */
-
-static struct cell draw_cell(struct author *a, struct geometry g)
-{
-    struct cell cell;
-
-    cell.bank = draw(a, 1u << g.bank_bits);
-    cell.row = draw(a, 1u << g.row_bits);
-    cell.column = draw(a, 1u << g.column_bits);
-    return cell;
-}
 
 static void write_cell(struct author *a, struct words w, uint32_t address)
 {
@@ -506,7 +349,7 @@ static uint32_t draw_refused_address(struct author *a, struct geometry g)
 /* One number of the cell moved to or beyond the edge of the geometry. */
 static struct cell draw_outside_cell(struct author *a, struct geometry g)
 {
-    struct cell cell = draw_cell(a, g);
+    struct cell cell = draw_cell(&a->random, g);
 
     switch (draw(a, 3)) {
     case 0:
@@ -527,14 +370,14 @@ static struct cell draw_outside_cell(struct author *a, struct geometry g)
 
 static void write_map_call(struct author *a)
 {
-    struct words w = draw_words(a);
+    struct words w = draw_words(&a->random, a->calls_left > 1000000);
     struct configuration c;
     struct geometry g;
 
     configure(w, &c);
     g = c.geometry;
     if (once_in(a, 4))
-        spoil_words(a, &w);
+        spoil_words(&a->random, &w);
     switch (draw(a, 4)) {
     case 0:
         write_cell(a, w, 2 * draw(a, capacity(g) / 2));
@@ -543,7 +386,7 @@ static void write_map_call(struct author *a)
         write_cell(a, w, draw_refused_address(a, g));
         break;
     case 2:
-        write_address(a, w, draw_cell(a, g));
+        write_address(a, w, draw_cell(&a->random, g));
         break;
     default:
         write_address(a, w, draw_outside_cell(a, g));
@@ -553,178 +396,11 @@ static void write_map_call(struct author *a)
 
 /* ---- Traffic ---- */
 
-enum spread {
-    ANYWHERE,
-    ROWS_OF_ONE_BANK,
-    ROWS_OF_EVERY_BANK,
-    ONE_ROW_OF_EACH_BANK, /* in different blocks; the rows stay open */
-    ONE_BLOCK,
-    TWO_BLOCKS,
-    EDGES,
-    SPREADS
-};
-
-enum pace {
-    IDLE,
-    NOW_AND_THEN,
-    BURST_AT_EXPIRY,
-    PAUSE_AT_EXPIRY, /* the queue runs empty, so that a refresh is under way when the interval ends */
-    BEFORE_REFRESH,  /* one to three after each refresh and shortly before an expiry, then none */
-    KEEP_FULL,
-    PACES
-};
-
-enum { POOL = 8, NEVER = 16 };
-
-struct traffic {
-    uint32_t pool[POOL]; /* the addresses asked for; few, so that what is written is read again */
-    enum pace pace;
-    unsigned reads;         /* in a hundred */
-    unsigned until_backlog; /* the traffic ends when the backlog is as high */
-    uint32_t slots;         /* or after so many */
-    unsigned pause_from;    /* PAUSE_AT_EXPIRY: from this backlog on, */
-    unsigned pause;         /* for so many slots before the interval ends; another number each time */
-    unsigned lead;          /* BEFORE_REFRESH: so many slots before it ends; another number each time */
-};
-
-static void fill_edges(struct geometry g, uint32_t *pool)
-{
-    uint32_t row_of_bank = UINT32_C(2) << g.column_bits;
-    uint32_t end = capacity(g);
-    uint32_t edges[POOL] = {0, end - 2, 2046, 2048, row_of_bank - 2, row_of_bank, end / 2 - 2, end / 2};
-    unsigned n;
-
-    for (n = 0; n < POOL; n++)
-        pool[n] = edges[n];
-}
-
-static void fill_pool(struct author *a, enum spread spread, uint32_t *pool)
-{
-    struct geometry g = a->machine.c.geometry;
-    struct cell base = draw_cell(a, g);
-    uint32_t blocks = capacity(g) / 2048;
-    uint32_t block[2];
-    unsigned n;
-
-    block[0] = draw(a, blocks);
-    block[1] = once_in(a, 2) ? (block[0] + 1) % blocks : draw(a, blocks);
-    for (n = 0; n < POOL; n++) {
-        struct cell cell = draw_cell(a, g);
-
-        if (spread == ROWS_OF_ONE_BANK) {
-            cell.bank = base.bank;
-            cell.row = (base.row + n) % (1u << g.row_bits);
-        } else if (spread == ROWS_OF_EVERY_BANK) {
-            cell.bank = n % (1u << g.bank_bits);
-            cell.row = (base.row + n / 4) % (1u << g.row_bits);
-        } else if (spread == ONE_ROW_OF_EACH_BANK) {
-            cell.bank = n % (1u << g.bank_bits);
-            cell.row = (base.row + 4 * cell.bank) % (1u << g.row_bits);
-        }
-        pool[n] = address_of(g, cell);
-        if (spread == ONE_BLOCK || spread == TWO_BLOCKS)
-            pool[n] = 2048 * block[spread == ONE_BLOCK ? 0 : n % 2] + 2 * draw(a, 1024);
-    }
-    if (spread == EDGES)
-        fill_edges(g, pool);
-}
-
-static bool row_cycle_is_long(const struct configuration *c)
-{
-    return c->tRC > c->tRAS + c->tRP && c->tRC > c->tWR + c->tRP;
-}
-
-static struct traffic draw_traffic(struct author *a)
-{
-    static const unsigned shares[] = {0, 3, 50, 97, 100};
-    uint32_t RR = a->machine.c.RR;
-    uint32_t way = draw(a, 10);
-    struct traffic t;
-
-    fill_pool(a, draw(a, SPREADS), t.pool);
-    t.pace = draw(a, PACES);
-    t.reads = shares[draw(a, 5)];
-    t.until_backlog = NEVER;
-    t.slots = draw(a, 3 * RR) + 1;
-    t.pause_from = 1 + draw(a, 11);
-    t.pause = 0;
-    t.lead = 0;
-    if (once_in(a, 3) && row_cycle_is_long(&a->machine.c))
-        way = 7;
-    switch (way) {
-    case 0: /* climb through the levels, to one of them or into Must and beyond */
-        t.pace = KEEP_FULL;
-        t.reads = 100;
-        t.until_backlog = once_in(a, 4) ? NEVER : 1 + draw(a, 12);
-        t.slots = 14 * RR;
-        break;
-    case 1: /* Need refreshes that meet an expiry */
-        t.pace = PAUSE_AT_EXPIRY;
-        t.reads = 100;
-        t.pause_from = 8 + draw(a, 4);
-        t.slots = 24 * RR;
-        break;
-    case 2:
-        t.pace = IDLE;
-        t.slots = draw(a, 6 * RR) + 1;
-        break;
-    case 3:
-        t.pace = KEEP_FULL;
-        t.reads = 50;
-        t.slots = draw(a, 14 * RR) + 1;
-        break;
-    case 4: /* a refresh soon after writes and reads of different banks */
-    case 5:
-        t.pace = PAUSE_AT_EXPIRY;
-        t.reads = 50;
-        t.slots = 12 * RR;
-        fill_pool(a, ONE_ROW_OF_EACH_BANK, t.pool);
-        break;
-    case 6:
-        t.slots = draw(a, 20) + 1;
-        break;
-    case 7: /* a refresh soon after ACTs of different banks */
-        t.pace = BEFORE_REFRESH;
-        t.reads = once_in(a, 2) ? 3 : 50;
-        t.slots = 12 * RR;
-        fill_pool(a, ROWS_OF_EVERY_BANK, t.pool);
-        break;
-    default:
-        break;
-    }
-    return t;
-}
-
 static void write_pool_request(struct author *a, const struct traffic *t)
 {
-    enum request_kind kind = draw(a, 100) < t->reads ? READ_REQUEST : WRITE_REQUEST;
+    enum request_kind kind = draw_kind(&a->random, t);
 
     write_request(a, kind, t->pool[draw(a, POOL)]);
-}
-
-/* How many requests the traffic hands in before the coming slot. */
-static unsigned draw_requests(struct author *a, const struct traffic *t)
-{
-    const struct machine *m = &a->machine;
-    unsigned room = m->queued < QUEUE_ROOM ? QUEUE_ROOM - m->queued : 0;
-    bool near_expiry = m->interval <= 3 || m->interval + 3 >= m->c.RR;
-
-    switch (t->pace) {
-    case NOW_AND_THEN:
-        return once_in(a, 8);
-    case BURST_AT_EXPIRY:
-        return near_expiry && once_in(a, 2) ? 1 + draw(a, QUEUE_ROOM) : 0;
-    case PAUSE_AT_EXPIRY:
-        return (m->backlog < t->pause_from || m->interval > t->pause) && m->queued < 2;
-    case BEFORE_REFRESH:
-        if (m->queued == 0 && (all_banks_closed(&m->past) || m->interval == t->lead))
-            return 1 + draw(a, 3);
-        return 0;
-    case KEEP_FULL:
-        return room + once_in(a, 50); /* now and then one too many */
-    default:
-        return 0;
-    }
 }
 
 /* Calls of other kinds, refused ones and lines that are no calls. */
@@ -893,7 +569,7 @@ static unsigned write_slot_or_row(struct author *a, enum pace pace)
 
 static void write_traffic(struct author *a)
 {
-    struct traffic t = draw_traffic(a);
+    struct traffic t = draw_traffic(&a->random, &a->machine.c);
     uint32_t slot;
 
     if (once_in(a, 4))
@@ -903,11 +579,8 @@ static void write_traffic(struct author *a)
 
         if (a->machine.backlog >= t.until_backlog)
             return;
-        if (a->machine.interval == a->machine.c.RR) {
-            t.pause = draw(a, a->machine.c.RR / 3);
-            t.lead = 1 + draw(a, 20);
-        }
-        requests = draw_requests(a, &t);
+        follow_interval(&a->random, &t, &a->machine);
+        requests = draw_requests(&a->random, &t, &a->machine);
         while (requests-- > 0)
             write_pool_request(a, &t);
         write_aside(a);
@@ -971,11 +644,11 @@ static void write_blank_calls(struct author *a)
 
 static void write_refused_configuration(struct author *a)
 {
-    struct words w = draw_words(a);
+    struct words w = draw_words(&a->random, a->calls_left > 1000000);
 
-    spoil_words(a, &w);
+    spoil_words(&a->random, &w);
     if (once_in(a, 2))
-        spoil_words(a, &w);
+        spoil_words(&a->random, &w);
     write_config(a, w);
     if (a->machine.blank)
         write_blank_calls(a);
@@ -984,7 +657,7 @@ static void write_refused_configuration(struct author *a)
 static void write_accepted_configuration(struct author *a)
 {
     unsigned phases = 5 + draw(a, 9);
-    struct words w = draw_words(a);
+    struct words w = draw_words(&a->random, a->calls_left > 1000000);
 
     set_geometry(&w, (uint32_t)(a->geometry++ % GEOMETRIES));
     write_config(a, w);

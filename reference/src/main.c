@@ -4,25 +4,37 @@
 #include <stdlib.h>
 #include <string.h>
 
+#include "casecheck.h"
+#include "casefile.h"
+#include "cases.h"
 #include "generate.h"
+#include "judge.h"
 #include "play.h"
+#include "rulecases.h"
 #include "rules.h"
 #include "scrap.h"
 #include "show.h"
 
-enum { WELL = 0, REFUSED = 1, UNABLE = 2, MOST_NUMBERS = 2 };
+enum { WELL = 0, REFUSED = 1, UNABLE = 2, MOST_NUMBERS = 4 };
 
 static const char usage[] =
-    "usage: reference run < SCRIPT              plays a script, prints REPLAY.md's lines\n"
-    "       reference check < SCRIPT            the same, and holds the run against document 01\n"
-    "       reference script SEED CALLS         writes a random script\n"
-    "       reference rules SEED COMMANDS       holds the two writings of the rules against each other\n"
-    "       reference tape < SCRIPT > TAPE      plays a script, writes its tape\n"
-    "       reference read < TAPE               prints a tape's records\n"
-    "       reference damage < TAPE             prints how a tape ends at each cut and each byte changed\n"
-    "       reference copy < TAPE > TAPE        reads a tape and writes its slots anew\n"
-    "       reference random-tape SEED RECORDS  writes a random tape\n"
-    "       reference spoil SEED < TAPE > TAPE  damages a tape\n";
+    "usage: reference run < SCRIPT                  plays a script, prints REPLAY.md's lines\n"
+    "       reference check < SCRIPT                the same, and holds the run against document 01\n"
+    "       reference script SEED CALLS             writes a random script\n"
+    "       reference rules SEED COMMANDS           holds two writings of the rules against each other\n"
+    "       reference tape < SCRIPT > TAPE          plays a script, writes its tape\n"
+    "       reference read < TAPE                   prints a tape's records\n"
+    "       reference damage < TAPE                 prints how a tape ends at each cut and each byte changed\n"
+    "       reference copy < TAPE > TAPE            reads a tape and writes its slots anew\n"
+    "       reference random-tape SEED RECORDS      writes a random tape\n"
+    "       reference spoil SEED < TAPE > TAPE      damages a tape\n"
+    "       reference judge CFG ROW REF TIM < TAPE  judges a tape, prints TAPES.md's line\n"
+    "       reference judge-cases < CASES           the same for each case of a file\n"
+    "       reference check-cases < CASES           the same, and holds each against the other writings of the rules\n"
+    "       reference cases SEED COUNT > CASES      writes random cases\n"
+    "       reference own-cases SEED COUNT > CASES  writes random cases of our own machine's tapes\n"
+    "       reference rule-cases > CASES            writes cases for each rule, command and bank\n"
+    "       reference rule-lines                    prints the lines that they get\n";
 
 /* ---- What can be asked: each gives the program's status ---- */
 
@@ -88,33 +100,97 @@ static int do_spoil(const uint64_t *number)
     return WELL;
 }
 
+/* A tape that is too long is told from its first bytes. */
+static int do_judge(const uint64_t *number)
+{
+    struct words w = {(uint32_t)number[0], (uint32_t)number[1], (uint32_t)number[2], (uint32_t)number[3]};
+    struct bytes tape = {NULL, 0, 0};
+    struct verdict v;
+
+    bytes_take(&tape, stdin, (size_t)LONGEST_TAPE + 1);
+    v = judge(w, tape.at, tape.length);
+    print_verdict(v);
+    bytes_end(&tape);
+    return v.number == ACCEPTED && v.slot == 0 ? WELL : REFUSED;
+}
+
+static int do_judge_cases(const uint64_t *number)
+{
+    (void)number;
+    return judge_cases(stdin) ? WELL : UNABLE;
+}
+
+static int do_check_cases(const uint64_t *number)
+{
+    (void)number;
+    return check_cases(stdin) ? WELL : UNABLE;
+}
+
+static int do_cases(const uint64_t *number)
+{
+    random_cases(number[0], number[1]);
+    return WELL;
+}
+
+static int do_own_cases(const uint64_t *number)
+{
+    own_cases(number[0], number[1]);
+    return WELL;
+}
+
+static int do_rule_cases(const uint64_t *number)
+{
+    (void)number;
+    write_rule_cases();
+    return WELL;
+}
+
+static int do_rule_lines(const uint64_t *number)
+{
+    (void)number;
+    write_rule_lines();
+    return WELL;
+}
+
 static const struct task {
     const char *name;
-    int numbers; /* that follow the name */
+    int numbers;      /* that follow the name */
+    uint64_t largest; /* that they may be */
     int (*perform)(const uint64_t *number);
 } tasks[] = {
-    {"run", 0, do_run},
-    {"check", 0, do_check},
-    {"script", 2, do_script},
-    {"rules", 2, do_rules},
-    {"tape", 0, do_tape},
-    {"read", 0, do_read},
-    {"damage", 0, do_damage},
-    {"copy", 0, do_copy},
-    {"random-tape", 2, do_random_tape},
-    {"spoil", 1, do_spoil},
+    {"run", 0, UINT64_MAX, do_run},
+    {"check", 0, UINT64_MAX, do_check},
+    {"script", 2, UINT64_MAX, do_script},
+    {"rules", 2, UINT64_MAX, do_rules},
+    {"tape", 0, UINT64_MAX, do_tape},
+    {"read", 0, UINT64_MAX, do_read},
+    {"damage", 0, UINT64_MAX, do_damage},
+    {"copy", 0, UINT64_MAX, do_copy},
+    {"random-tape", 2, UINT64_MAX, do_random_tape},
+    {"spoil", 1, UINT64_MAX, do_spoil},
+    {"judge", 4, UINT32_MAX, do_judge},
+    {"judge-cases", 0, UINT64_MAX, do_judge_cases},
+    {"check-cases", 0, UINT64_MAX, do_check_cases},
+    {"cases", 2, UINT64_MAX, do_cases},
+    {"own-cases", 2, UINT64_MAX, do_own_cases},
+    {"rule-cases", 0, UINT64_MAX, do_rule_cases},
+    {"rule-lines", 0, UINT64_MAX, do_rule_lines},
 };
 enum { TASKS = sizeof tasks / sizeof tasks[0] };
 
 /* ---- The words of the command line ---- */
 
-static bool read_count(const char *text, uint64_t *count)
+/* Decimal, or hexadecimal after 0x. */
+static bool read_number(const char *text, uint64_t largest, uint64_t *number)
 {
-    if (*text == '\0' || strspn(text, "0123456789") != strlen(text))
+    bool hexadecimal = strncmp(text, "0x", 2) == 0;
+    const char *digits = hexadecimal ? text + 2 : text;
+
+    if (*digits == '\0' || strspn(digits, hexadecimal ? "0123456789abcdefABCDEF" : "0123456789") != strlen(digits))
         return false;
     errno = 0;
-    *count = strtoumax(text, NULL, 10);
-    return errno == 0;
+    *number = strtoumax(digits, NULL, hexadecimal ? 16 : 10);
+    return errno == 0 && *number <= largest;
 }
 
 /* NULL where the words ask for nothing. */
@@ -128,7 +204,7 @@ static const struct task *read_task(int words, char **word, uint64_t *number)
     if (task == tasks + TASKS || words != 1 + task->numbers)
         return NULL;
     for (n = 0; n < task->numbers; n++)
-        if (!read_count(word[1 + n], &number[n]))
+        if (!read_number(word[1 + n], task->largest, &number[n]))
             return NULL;
     return task;
 }

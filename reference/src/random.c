@@ -13,3 +13,8 @@ uint32_t random_below(uint64_t *state, uint32_t below)
 {
     return (uint32_t)(random_next(state) % below);
 }
+
+bool random_once_in(uint64_t *state, uint32_t times)
+{
+    return random_below(state, times) == 0;
+}

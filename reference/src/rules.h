@@ -1,6 +1,6 @@
 /*
- * R1 to R16 stand twice in this program, in legality.c and in sdram.c. Here the two are held against each
- * other, on commands in an order that no machine gives them.
+ * R1 to R16 stand in legality.c and a second time in sdram.c. Here the two are held against each other, on
+ * commands in an order that no machine gives them. For judge.c, which has them a third time, see casecheck.h.
  */
 #ifndef RULES_H
 #define RULES_H

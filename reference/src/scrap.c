@@ -1,7 +1,6 @@
 #include "scrap.h"
 
 #include <stdbool.h>
-#include <stdlib.h>
 #include <string.h>
 
 #include "random.h"
@@ -93,30 +92,6 @@ void random_tape(uint64_t seed, uint64_t records)
 
 /* ---- Damage ---- */
 
-struct bytes {
-    unsigned char *at;
-    size_t length;
-};
-
-/* All of the file, in a place with room for one byte more. */
-static struct bytes whole_file(FILE *file)
-{
-    struct bytes b = {NULL, 0};
-    size_t room = 65536, got;
-
-    do {
-        room *= 2;
-        b.at = realloc(b.at, room);
-        if (b.at == NULL) {
-            fputs("reference: out of memory\n", stderr);
-            exit(2);
-        }
-        got = fread(b.at + b.length, 1, room - 1 - b.length, file);
-        b.length += got;
-    } while (got > 0);
-    return b;
-}
-
 static size_t draw_place(uint64_t *random, size_t below)
 {
     return (size_t)(random_next(random) % below);
@@ -137,10 +112,11 @@ static void change_bytes(uint64_t *random, struct bytes *b)
 static void put_byte_in(uint64_t *random, struct bytes *b)
 {
     size_t place = draw_place(random, b->length + 1);
+    unsigned char byte = (unsigned char)random_below(random, random_below(random, 2) == 0 ? 9 : 256);
 
-    memmove(b->at + place + 1, b->at + place, b->length - place);
-    b->at[place] = (unsigned char)random_below(random, random_below(random, 2) == 0 ? 9 : 256);
-    b->length++;
+    bytes_put(b, &byte, 1);
+    memmove(b->at + place + 1, b->at + place, b->length - 1 - place);
+    b->at[place] = byte;
 }
 
 static void take_byte_out(uint64_t *random, struct bytes *b)
@@ -151,28 +127,35 @@ static void take_byte_out(uint64_t *random, struct bytes *b)
     memmove(b->at + place, b->at + place + 1, b->length - place);
 }
 
-void spoil_tape(uint64_t seed, FILE *file)
+void spoil_bytes(uint64_t *random, struct bytes *b)
 {
-    uint64_t random = seed;
-    struct bytes b = whole_file(file);
-    enum { CHANGE, CUT, TAKE_OUT, PUT_IN, WAYS } way = random_below(&random, WAYS);
+    enum { CHANGE, CUT, TAKE_OUT, PUT_IN, WAYS } way = random_below(random, WAYS);
 
-    if (b.length == 0)
+    if (b->length == 0)
         way = PUT_IN; /* there is nothing to change */
     switch (way) {
     case CHANGE:
-        change_bytes(&random, &b);
+        change_bytes(random, b);
         break;
     case CUT:
-        b.length = draw_place(&random, b.length);
+        b->length = draw_place(random, b->length);
         break;
     case TAKE_OUT:
-        take_byte_out(&random, &b);
+        take_byte_out(random, b);
         break;
     default:
-        put_byte_in(&random, &b);
+        put_byte_in(random, b);
         break;
     }
+}
+
+void spoil_tape(uint64_t seed, FILE *file)
+{
+    uint64_t random = seed;
+    struct bytes b = {NULL, 0, 0};
+
+    bytes_take(&b, file, SIZE_MAX);
+    spoil_bytes(&random, &b);
     fwrite(b.at, 1, b.length, stdout);
-    free(b.at);
+    bytes_end(&b);
 }

@@ -100,16 +100,27 @@ static struct record load_body(enum command_kind kind, const unsigned char *body
 void tape_write_begin(struct tape_writer *w, FILE *file)
 {
     w->file = file;
+    w->bytes = NULL;
     w->run = 0;
+}
+
+void tape_write_bytes(struct tape_writer *w, struct bytes *bytes)
+{
+    tape_write_begin(w, NULL);
+    w->bytes = bytes;
 }
 
 static void put_record(struct tape_writer *w, struct record r)
 {
-    unsigned char body[LONGEST_BODY] = {0};
+    unsigned char record[1 + LONGEST_BODY] = {0};
+    size_t length = 1 + body_length[r.command.kind];
 
-    store_body(r, body);
-    putc((int)r.command.kind, w->file);
-    fwrite(body, 1, body_length[r.command.kind], w->file);
+    record[0] = (unsigned char)r.command.kind;
+    store_body(r, record + 1);
+    if (w->file != NULL)
+        fwrite(record, 1, length, w->file);
+    else
+        bytes_put(w->bytes, record, length);
 }
 
 static void put_run(struct tape_writer *w)

@@ -6,6 +6,7 @@
 #include <stdint.h>
 #include <stdio.h>
 
+#include "bytes.h"
 #include "command.h"
 #include "words.h"
 
@@ -20,11 +21,13 @@ struct record {
 /* ---- Out: slots in, the one spelling out, whatever the calls that the slots come from ---- */
 
 struct tape_writer {
-    FILE *file;
+    FILE *file;          /* NULL where the tape is put into the bytes below */
+    struct bytes *bytes;
     unsigned run; /* NOPs that are not written yet */
 };
 
 void tape_write_begin(struct tape_writer *w, FILE *file);
+void tape_write_bytes(struct tape_writer *w, struct bytes *bytes);
 void tape_put(struct tape_writer *w, struct record r);
 void tape_write_end(struct tape_writer *w);
 

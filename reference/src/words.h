@@ -20,7 +20,8 @@ enum number {
     OUTSIDE_GEOMETRY = 10,
     KIND_ABOVE_7 = 11, /* 11 to 13 are the tape reader's: document 02, (ii) */
     BODY_CUT = 12,
-    RUN_MISSPELLED = 13
+    RUN_MISSPELLED = 13,
+    TAPE_TOO_LONG = 19 /* the judge's: document 02, (v) */
 };
 
 struct words {
