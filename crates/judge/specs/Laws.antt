@@ -59,7 +59,7 @@ pub record Judges : Type 0 where
   -- accepted means exactly that the plain SDRAM would reject nothing
   pub accepted : (cfg row ref tim : ℕ) (tape : List ℕ) → judgeOf cfg row ref tim tape ≡ saidOf 0 → Legal cfg row ref tim tape
   pub legal : (cfg row ref tim : ℕ) (tape : List ℕ) → Legal cfg row ref tim tape → judgeOf cfg row ref tim tape ≡ saidOf 0
-  -- and a slot with its rule and bank that it is the first that it would; slots count from 1
+  -- a slot with a rule and a bank means exactly that its command is the first that the SDRAM would reject; slots count from 1
   pub found : (cfg row ref tim : ℕ) (tape : List ℕ) (i : ℕ) (x : Violation) → judgeOf cfg row ref tim tape ≡ illegalAt (suc i) x → Illegal cfg row ref tim tape i x
   pub illegal : (cfg row ref tim : ℕ) (tape : List ℕ) (i : ℕ) (x : Violation) → Illegal cfg row ref tim tape i x → judgeOf cfg row ref tim tape ≡ illegalAt (suc i) x
   -- nothing else is said: a number that is not 0 comes alone, and with number 0 and slot 0 all is legal

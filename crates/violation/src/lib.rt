@@ -5,7 +5,7 @@ use address::Column;
 use address::Row;
 use command::Command;
 use config::Config;
-ghost use Prim.Native.Nat.{_+_, _<_, _≤_, _*_};
+ghost use Prim.Native.Nat.{_+_, _<_, _≤_};
 ghost use mathlib.Core.Path.{_≡_};
 ghost use mathlib.Core.Bool.{not, _||_};
 ghost use lib.Dec.{leb, eqb};
