@@ -1,4 +1,6 @@
 // Owns the test whether the action under way is sound, its part of the test for number 9 (`plan` has the definition; docs/SOUNDNESS.md).
+#![tactic(auto)]
+
 ghost use Rattle.std.specs.Prelude.{ℕ, ◌≡◌, List, ◌&&◌, leb, ltb};
 ghost use Rattle.device.specs.View.{all_closed};
 ghost use Rattle.ages.specs.Ages.{open_rows};

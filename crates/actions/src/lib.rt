@@ -1,5 +1,7 @@
 // Owns what a slot asks of the action under way (`plan` has it): whether it is a service slot, whether a choice is due, whose request it is; and the
 // first action.
+#![tactic(auto)]
+
 ghost use Rattle.std.specs.Prelude.{◌≡◌, ◌≤◌};
 ghost use Rattle.plan.specs.Actions.{is_idle, in_service, under_way, first_action};
 

@@ -1,5 +1,7 @@
 // Owns the address map: bank, row and column numbers as three types, a byte address to its cell, and blocks; and the definition of the way back, for
 // which `standalone` has the code.
+#![tactic(auto)]
+
 ghost use Rattle.std.specs.Prelude.{◌≡◌, ◌<◌, ◌≤◌, ◌^◌, ltb};
 ghost use Rattle.config.specs.Accepted.{Shaped};
 ghost use Rattle.address.specs.Map.{capacity_of, cell_of, address_number_of, block_of};

@@ -1,5 +1,7 @@
 // Owns the past commands as the sequencer keeps them, as ages: what the rules see of that, its agreement with the plain SDRAM's history,
 // and the code that reads it. `aging` makes the past after a slot.
+#![tactic(auto)]
+
 ghost use Rattle.std.specs.Prelude.{ℕ, ◌≡◌, List};
 ghost use Rattle.device.specs.View.{all_closed};
 ghost use Rattle.ages.specs.Ages.{fresh_of, open_in, row_in, open_rows};

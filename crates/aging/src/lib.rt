@@ -1,5 +1,7 @@
 // Owns the past after a slot (`ages` has the record), made in place: what the slot's command starts is noted with age 0, and then the slot passes, in which all
 // ages become a slot older. A bank that no device has is taken for none.
+#![tactic(auto)]
+
 ghost use Rattle.std.specs.Prelude.{◌≡◌, false, true, map, ◌+◌, set, replicate};
 ghost use Rattle.ages.specs.Ages.{aged_of};
 ghost use Rattle.aging.specs.Noted.{at_bank, precharged};

@@ -1,4 +1,6 @@
 // Owns the lines that are written for a script's answers (REPLAY.md) and for a tape's records (TAPES.md).
+#![tactic(auto)]
+
 ghost use Rattle.std.specs.Prelude.{◌≡◌};
 ghost use Rattle.answer.specs.Output.{
   and_word,

@@ -1,5 +1,7 @@
 // Owns many slots on the machine's parts, one after the other (document 02, (i)): the parts are changed in place, and the words of the commands and reports
 // are stored one slot after the other.
+#![tactic(auto)]
+
 ghost use Rattle.std.specs.Prelude.{◌≤◌, ◌<◌, ◌≡◌, length};
 ghost use Rattle.config.specs.Accepted.{Shaped};
 ghost use Rattle.ages.specs.Ages.{past_of};

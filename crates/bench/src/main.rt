@@ -1,5 +1,7 @@
 // Runs slots in a loop with a fixed pseudo-random stream of requests and prints a digest of all answers, commands and reports:
 // the work of bench/baseline.c, on the proved machine (see bench/run).
+#![tactic(auto)]
+
 use command::Command;
 use libc::STDOUT_FILENO;
 use plan::Report;

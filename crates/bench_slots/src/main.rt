@@ -1,5 +1,7 @@
 // Runs slots, 64 in each call, with a fixed pseudo-random stream of requests between the calls, and prints a digest of all answers and words: the work of
 // bench/best.c with -DMANY, on the proved machine (see bench/run).
+#![tactic(auto)]
+
 use libc::STDOUT_FILENO;
 use queue::Kind;
 use sequencer::{Machine, Requested};

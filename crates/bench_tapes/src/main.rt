@@ -1,5 +1,7 @@
 // Writes the tape of a row of 16,384 words, or reads that tape, again and again, and prints a digest of what is answered: the work of bench/tapes.c, on the
 // proved writer and reader (see bench/run).
+#![tactic(auto)]
+
 ghost use Rattle.std.specs.Prelude.{◌≡◌, ◌<◌, length};
 
 use address::Bank;

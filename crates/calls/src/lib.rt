@@ -1,4 +1,6 @@
 // Owns what is written for the calls of a script (REPLAY.md): the line of a call, with the machine after it, and the lines of a call for many slots.
+#![tactic(auto)]
+
 ghost use Rattle.std.specs.Prelude.{◌≤◌, ◌≡◌, length};
 ghost use Rattle.calls.specs.Played.{
   played_of,

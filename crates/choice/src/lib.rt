@@ -1,4 +1,6 @@
 // Owns the code of the choice (document 01, "A service slot", rules 1 to 6; `plan` has the rules).
+#![tactic(auto)]
+
 ghost use Rattle.std.specs.Prelude.{ℕ, ◌≡◌, List};
 ghost use Rattle.device.specs.View.{all_closed};
 ghost use Rattle.ages.specs.Ages.{open_rows};

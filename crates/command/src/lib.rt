@@ -1,4 +1,6 @@
 // Owns the commands that a slot can carry to the device (document 01, "Commands and their distances").
+#![tactic(auto)]
+
 use address::{Bank, Column, Row};
 
 #[derive(Drop)]

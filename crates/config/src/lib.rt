@@ -1,4 +1,6 @@
 // Owns the configuration: from document 01's four register words to it, or to one of the numbers 1, 2 and 3, and the test of a record.
+#![tactic(auto)]
+
 ghost use Rattle.std.specs.Prelude.{◌≡◌, ◌<◌, ◌≤◌, max};
 ghost use Rattle.words.specs.Words.{bits, field_of};
 ghost use Rattle.config.specs.Setting.{no_config, offered_of, geometry_of, config_of, too_short, checked_of, refused_of, setting_of, map_number_of, slots, access_span, refresh_span};

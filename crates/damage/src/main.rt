@@ -1,5 +1,7 @@
 // Writes what reading gives for every front part of a short tape from standard input, and for every tape that differs from it in one byte. A test compares
 // it with the independent reference.
+#![tactic(auto)]
+
 ghost use Rattle.std.specs.Prelude.{◌<◌, length};
 
 use answer::Answer;

@@ -1,5 +1,7 @@
 // Owns the judge of tapes (document 02, (v)): are all commands of a tape legal, for the device that four register words describe? If not, which slot is the first that is not,
 // which rule does it break, and for which bank?
+#![tactic(auto)]
+
 ghost use Rattle.std.specs.Prelude.{◌+◌, ◌*◌, ◌^◌, ◌≤◌, ◌<◌, ◌≡◌, length};
 ghost use Rattle.config.specs.Accepted.{Accepted};
 ghost use Rattle.tape.specs.Reading.{step_of, contents_of};

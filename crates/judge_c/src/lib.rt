@@ -1,5 +1,7 @@
 // Owns the judge as a program in C calls it (document 02, (v); include/girmutsab.h): register words and a tape's bytes in, the verdict as one word of 64 bits out. Nothing is
 // kept between calls.
+#![tactic(auto)]
+
 ghost use Rattle.std.specs.Prelude.{◌<◌, ◌^◌, ◌≡◌};
 ghost use Rattle.judge.specs.Judge.{judge_of};
 ghost use Rattle.judge_c.specs.Word.{word_of, Fits};

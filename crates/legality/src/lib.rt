@@ -1,5 +1,7 @@
 // Owns the test whether a command is legal in the next slot, by the ages (R1 to R16; `device` has the rules). No rule asks which rows are
 // open, and only ACT's ask whether the mode is set: the contracts say so for every one.
+#![tactic(auto)]
+
 ghost use Rattle.std.specs.Prelude.{◌≡◌, Bool, not, ◌||◌, List, ℕ, ◌+◌, leb, eqb};
 ghost use Rattle.config.specs.Accepted.{Shaped};
 ghost use Rattle.device.specs.Rules.{all_hold, R7, R12-open, R13-open, R16, legal_of};

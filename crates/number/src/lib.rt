@@ -1,4 +1,6 @@
 // Owns the reading of a number of a script (REPLAY.md), byte by byte.
+#![tactic(auto)]
+
 ghost use Rattle.std.specs.Prelude.{◌≡◌, ◌<◌};
 ghost use Rattle.number.specs.Number.{digit_of, joined_of, more_decimal, more_hex, first_byte, after_zero, number_of, value_of};
 

@@ -1,5 +1,7 @@
 // Owns the numbers that a machine's parts decide: 9, with the soundness behind it, and 8; and for a request 4 to 7 after these. They look at parts of the
 // machine, so that the machine is not copied for them; of the past only at the open flags and at the mode, and the contracts say so.
+#![tactic(auto)]
+
 ghost use Rattle.std.specs.Prelude.{ℕ, ◌≡◌, Bool, List};
 ghost use Rattle.config.specs.Accepted.{accepted_of};
 ghost use Rattle.ages.specs.Ages.{past_of};

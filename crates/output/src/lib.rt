@@ -1,4 +1,6 @@
 // Owns a program's output: bytes that wait in a lent buffer, and are written to standard output before they fill it.
+#![tactic(auto)]
+
 ghost use Rattle.std.specs.Prelude.{◌≤◌, ◌≡◌, false, length};
 ghost use Rattle.output.specs.Waiting.{Limited, Emptied, Roomy};
 

@@ -1,4 +1,6 @@
 // Owns commands and reports as words of 64 bits (docs/PACKING.md): the word of each, what a word unpacks to, and whether it packs anything.
+#![tactic(auto)]
+
 ghost use Rattle.std.specs.Prelude.{◌≡◌};
 ghost use Rattle.packing.specs.Limits.{limit_of};
 ghost use Rattle.packing.specs.Packing.{

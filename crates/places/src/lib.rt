@@ -1,4 +1,6 @@
 // Owns the code of the queue's places: what the array of 24 numbers holds at each, the empty queue, acceptance and removal.
+#![tactic(auto)]
+
 ghost use Rattle.queue.specs.Places.{no_request, data_of, kind_in, request_in, request_at, queue_of, empty_of, accept_of, shifted_of, remove_of, held_count};
 ghost use Rattle.std.specs.Prelude.{◌≡◌, ◌<◌};
 

@@ -2,6 +2,8 @@
 // to 6 of the choice, and what a report says. It has no code; `actions`, `choice`, `service` and `turn` have it.
 
 // The action under way. The first five are the initialisation. All counts and places are of one width, so that an action has no padding.
+#![tactic(auto)]
+
 #[derive(Drop)]
 pub enum Action {
     // So many slots of NOP are left of the pause.

@@ -1,5 +1,7 @@
 // Owns a run of a script: its machine and all that waits, and what each line does to it. Written are the lines that REPLAY.md fixes, or the tape of the
 // slots (TAPES.md).
+#![tactic(auto)]
+
 ghost use Rattle.std.specs.Prelude.{◌≡◌, ◌+◌, ◌%◌, false, length};
 ghost use Rattle.script.specs.Line.{no_line};
 ghost use Rattle.play.specs.Run.{is_tape, start_of, over_of};

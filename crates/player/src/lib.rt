@@ -1,4 +1,6 @@
 // Owns the playing of a script of any length from standard input.
+#![tactic(auto)]
+
 ghost use Rattle.std.specs.Prelude.{◌≤◌, ◌≡◌, false, length};
 
 use libc::STDIN_FILENO;

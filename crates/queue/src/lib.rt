@@ -1,5 +1,7 @@
 // Owns the queue of accepted requests (document 01, "A service slot"): its types, and the definitions of acceptance and removal, for which `places` has
 // the code, and of blocked requests and of the oldest unblocked read and write, for which `search` looks.
+#![tactic(auto)]
+
 ghost use Rattle.config.specs.Accepted.{Shaped};
 ghost use Rattle.queue.specs.Places.{cell_for};
 ghost use Rattle.std.specs.Prelude.{◌≡◌};

@@ -1,4 +1,6 @@
 // Plays a script of any length from standard input, and writes the tape of its slots (TAPES.md) to standard output.
+#![tactic(auto)]
+
 use play::Mode;
 
 fn main() {

@@ -1,4 +1,6 @@
 // Owns a tape on its way to standard output.
+#![tactic(auto)]
+
 ghost use Rattle.std.specs.Prelude.{◌≤◌, ◌≡◌, false, length};
 ghost use Rattle.recording.specs.Recording.{Lent, Added, Ended};
 

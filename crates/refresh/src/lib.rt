@@ -1,5 +1,7 @@
 // Owns the refresh counters and their urgency (document 01, "A service slot"): the interval counter with its reload, the
 // backlog, the level that a backlog stands for, and the Must run.
+#![tactic(auto)]
+
 ghost use Rattle.refresh.specs.Counting.{start_of, expires_of, raised_of, tick_of, refreshed_of, sound_counters};
 ghost use Rattle.refresh.specs.Urgency.{level_of, run_of};
 ghost use Rattle.std.specs.Prelude.{◌≡◌};

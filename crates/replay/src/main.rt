@@ -1,4 +1,6 @@
 // Plays a script of any length from standard input, and writes the lines that REPLAY.md fixes to standard output.
+#![tactic(auto)]
+
 use play::Mode;
 
 fn main() {

@@ -1,4 +1,6 @@
 // Owns the reading of a script (REPLAY.md): a line to a call, byte by byte (`number` has its numbers).
+#![tactic(auto)]
+
 ghost use Rattle.std.specs.Prelude.{◌≡◌};
 ghost use Rattle.script.specs.Line.{
   ruined_of,

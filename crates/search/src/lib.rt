@@ -1,4 +1,6 @@
 // Owns the search for the oldest unblocked read and write (document 01, "A service slot", rules 2 and 4; `queue` has the definitions).
+#![tactic(auto)]
+
 ghost use Rattle.queue.specs.Places.{requests_in, queue_of, held_of};
 ghost use Rattle.queue.specs.Oldest.{same_kind, shared_by, ready_of, oldest_of};
 ghost use Rattle.std.specs.Prelude.{take, ◌≡◌, ℕ, ◌≤◌, ◌<◌};

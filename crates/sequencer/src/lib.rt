@@ -1,4 +1,6 @@
 // Owns the machine and the calls on it: configuration, the request, the slot, many slots, and the backlog.
+#![tactic(auto)]
+
 ghost use Rattle.std.specs.Prelude.{◌≡◌, ◌≤◌, ◌<◌, min, cond, eqb};
 ghost use Rattle.numbers.specs.Numbers.{last_number};
 ghost use Rattle.sequencer.specs.Machine.{machine_with, blank_of, machine_of};

@@ -1,5 +1,7 @@
 // Owns the code of a slot's plan (document 01, "Start" and "A service slot"; `plan` has the rules): the action's next command if it is legal,
 // otherwise NOP, and what follows. What the command starts is noted in the past at once.
+#![tactic(auto)]
+
 ghost use Rattle.std.specs.Prelude.{ℕ, ◌-◌, ◌≡◌, List};
 ghost use Rattle.config.specs.Accepted.{Shaped};
 ghost use Rattle.ages.specs.Ages.{past_of, open_rows, by_ages};

@@ -1,4 +1,6 @@
 // Writes the records of a tape of any length from standard input to standard output, one a line, as TAPES.md says.
+#![tactic(auto)]
+
 ghost use Rattle.std.specs.Prelude.{◌≤◌, length};
 
 use answer::Answer;

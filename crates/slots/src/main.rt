@@ -1,5 +1,7 @@
 // Prints the slots of a fixed list of requests for a person, to be held against E5 and E6 of document 01: E1's machine, with a
 // write and a read of address 0 queued before the first slot.
+#![tactic(auto)]
+
 use command::Command;
 use libc::STDOUT_FILENO;
 use plan::Report;

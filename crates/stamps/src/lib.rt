@@ -1,5 +1,7 @@
 // Owns the past commands of a tape as the slots of the last ones, told by a clock: what the rules see of that, its agreement with the plain SDRAM's history, and the
 // code that reads it and puts a command in. Nothing is made older, so a run of NOPs costs nothing here.
+#![tactic(auto)]
+
 ghost use Rattle.std.specs.Prelude.{ℕ, ◌+◌, ◌^◌, ◌<◌, ◌≡◌, leb, ltb, length, get_or};
 ghost use Rattle.stamps.specs.Stamps.{slot_of, no_stamps, open_at, stamped_of, Clocked};
 

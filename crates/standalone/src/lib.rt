@@ -1,4 +1,6 @@
 // Owns the standalone map (document 01, "Numbers given back"): a byte address to its cell and back, under a CFG and a ROW word.
+#![tactic(auto)]
+
 ghost use Rattle.std.specs.Prelude.{◌≡◌, true};
 ghost use Rattle.config.specs.Accepted.{Shaped};
 ghost use Rattle.address.specs.Map.{address_of, holds_of};

@@ -1,4 +1,6 @@
 // Owns the tape's format (document 02, (ii)): the bytes of a list of slots, what the reader answers, and what is promised of both.
+#![tactic(auto)]
+
 use command::Command;
 
 // Why a record is refused.

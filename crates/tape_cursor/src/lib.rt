@@ -1,5 +1,7 @@
 // Owns one record of a tape as a judge takes it (document 02, (v)): a legal command is sent, a run of NOPs passes, and anything else halts the judge. The record is read and
 // tested in one go, without a `Command` between (docs/PERFORMANCE.md).
+#![tactic(auto)]
+
 ghost use Rattle.std.specs.Prelude.{ℕ, ◌<◌, ◌≤◌, ◌+◌, ◌^◌, ◌≡◌, true, List};
 ghost use Rattle.tape.specs.Reading.{step_of};
 ghost use Rattle.tape_cursor.specs.Taken.{taken_as, halted_of, taken_of, Here, Ready};

@@ -1,4 +1,6 @@
 // Owns the record at a place of a tape (document 02, (ii)).
+#![tactic(auto)]
+
 ghost use Rattle.std.specs.Prelude.{◌+◌, ◌*◌, ◌<◌, ◌≡◌, length, get_or};
 ghost use Rattle.tape.specs.Reading.{body_length, wrong_run, step_of};
 ghost use Rattle.tape_decoder.specs.Decoder.{step_in};

@@ -1,4 +1,6 @@
 // Owns the records that a slot adds to a tape (document 02, (ii)): how long they are, and their bytes, after NOPs that still wait for their record.
+#![tactic(auto)]
+
 ghost use Rattle.std.specs.Prelude.{◌+◌, ◌≤◌, ◌≡◌, true, length};
 ghost use Rattle.std.proofs.lemmas.List.Edits.{sets};
 ghost use Rattle.packing.specs.Packing.{command_in, packs_command};

@@ -1,5 +1,7 @@
 // Owns the test whether a command of a tape is legal in the slot in which the clock shows `clock`, by the stamps of the past commands (R1 to R16; `device` has the
 // rules). It says no rule's number: `violation` looks for that where a command is not legal.
+#![tactic(auto)]
+
 ghost use Rattle.std.specs.Prelude.{◌≡◌, true, ◌||◌, ℕ, ◌+◌, ◌<◌, ◌≤◌, max, leb, eqb, get_or};
 ghost use Rattle.config.specs.Accepted.{Accepted};
 ghost use Rattle.device.specs.View.{all_closed};

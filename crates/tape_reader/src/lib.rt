@@ -1,4 +1,6 @@
 // Owns the reader of tapes (document 02, (ii)): it keeps a lent tape and its place, and goes from record to record.
+#![tactic(auto)]
+
 ghost use Rattle.std.specs.Prelude.{◌≡◌};
 ghost use Rattle.tape.specs.Reading.{step_of};
 ghost use Rattle.tape_reader.specs.Reader.{step_after};

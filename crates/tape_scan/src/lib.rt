@@ -1,4 +1,6 @@
 // Owns the reading of a whole tape in memory: how many slots it has, and what it ends with.
+#![tactic(auto)]
+
 ghost use Rattle.std.specs.Prelude.{◌≡◌, length};
 ghost use Rattle.tape.specs.Reading.{number_of, answer_of, slots_of, goes_on};
 ghost use Rattle.tape_scan.specs.Scan.{stopped_of, scanned_of};

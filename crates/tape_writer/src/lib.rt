@@ -1,4 +1,6 @@
 // Owns the writer of tapes (document 02, (ii)): a whole tape from a row of words, and a tape that is written in pieces.
+#![tactic(auto)]
+
 ghost use Rattle.std.specs.Prelude.{◌≤◌, ◌≡◌, true, length};
 ghost use Rattle.std.proofs.lemmas.List.Edits.{sets};
 ghost use Rattle.tape.specs.Writing.{piece_of};

@@ -1,4 +1,6 @@
 // Owns a short text that is put together piece by piece, for a line of output: bytes, words and decimal numbers.
+#![tactic(auto)]
+
 ghost use Rattle.std.specs.Prelude.{◌≡◌, ◌+◌, ◌≤◌, ◌<◌};
 ghost use Rattle.text.specs.Spelling.{empty_of, byte_of, spelled_of, word_of, decimal_of};
 

@@ -1,5 +1,7 @@
 // Owns one slot on the machine's parts (document 01, "Start" and "A service slot"; `plan` has the rules): the counters, the choice, the plan of
 // the action, the queue and the past after it. The past's arrays and the queue's places are changed in place.
+#![tactic(auto)]
+
 ghost use Rattle.std.specs.Prelude.{◌≡◌, length};
 ghost use Rattle.config.specs.Accepted.{Shaped};
 ghost use Rattle.ages.specs.Ages.{past_of};

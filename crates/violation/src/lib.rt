@@ -1,5 +1,7 @@
 // Owns the search for the rule that a command of a tape breaks first (document 02, (v)): rules by rising number, in a rule the banks, and what a rule asks of a bank, by the
 // stamps of the past commands.
+#![tactic(auto)]
+
 ghost use Rattle.std.specs.Prelude.{◌+◌, ◌<◌, ◌≤◌, ◌≡◌, not, ◌||◌, leb, eqb, get_or};
 ghost use Rattle.config.specs.Accepted.{Accepted};
 ghost use Rattle.device.specs.Rules.{all_hold, R7, requirements};

@@ -1,4 +1,6 @@
 // Owns the register words as fields of bits (document 01, "Register words"): the number in a field, and whether a bit is set that no field names.
+#![tactic(auto)]
+
 ghost use Rattle.std.specs.Prelude.{◌≡◌, ◌<◌, ◌^◌};
 ghost use Rattle.words.specs.Words.{bits, field_of, any_set, cfg_reserved, row_reserved, ref_reserved, tim_reserved, reserved_map, reserved_all};
 
