@@ -9,19 +9,19 @@ ghost use Rattle.address.specs.Map.{capacity_of, cell_of, address_number_of, blo
 use config::Geometry;
 
 // A bank's number.
-#[derive(Drop)]
+#[derive(Clone, Copy)]
 pub struct Bank(pub u8);
 
 // A row's number within a bank.
-#[derive(Drop)]
+#[derive(Clone, Copy)]
 pub struct Row(pub u16);
 
 // A column's number within a row.
-#[derive(Drop)]
+#[derive(Clone, Copy)]
 pub struct Column(pub u16);
 
 // A place for one halfword in the device.
-#[derive(Drop)]
+#[derive(Clone, Copy)]
 pub struct Cell {
     pub bank: Bank,
     pub row: Row,
@@ -45,6 +45,7 @@ pub fn inside(n: u16, width: u8) -> bool
 }
 
 // How many bytes the device holds.
+#[tactic(auto, unfolding(crate::specs::Map::capacity_of))]
 fn capacity(g: Geometry) -> u32
     requires { Shaped g }
     ensures { result ≡ capacity_of g }
@@ -53,6 +54,7 @@ fn capacity(g: Geometry) -> u32
 }
 
 // The number for an address: 4 where it is odd, 5 where it lies beyond the device, else 0.
+#[tactic(auto, unfolding(crate::specs::Map::address_number_of))]
 pub fn address_number(g: Geometry, address: u32) -> u8
     requires { Shaped g }
     ensures { result ≡ address_number_of g address }
@@ -67,6 +69,7 @@ pub fn address_number(g: Geometry, address: u32) -> u8
 }
 
 // The cell of an address; of one beyond the device, which no accepted request has, that of its low bits.
+#[tactic(auto, using(crate::proofs::Laws::small, crate::proofs::Laws::cell_within), unfolding(crate::specs::Map::cell_of))]
 pub fn cell_of(g: Geometry, address: u32) -> Cell
     requires { Shaped g }
     ensures { result ≡ cell_of g address }

@@ -14,7 +14,7 @@ pub const CAP: u8 = 32;
 // What is kept of the past commands. An age is in slots, as the next slot sees it: 1 after the command's own slot, 32 at most, and 32 if
 // there was none. The ages: ACT of each bank; its PRE or any DEAC; REFR, MRS, any PRE or DEAC, READ; WRT to each bank (docs/PERFORMANCE.md: the order
 // counts). They, the flags and the rows are arrays of numbers and bools, which can be lent, so that a slot changes them in place.
-#[derive(Drop)]
+#[derive(Clone, Copy)]
 pub struct Past {
     pub ages: [u8; 16],
     // Is the bank open, and with which row?
@@ -25,6 +25,7 @@ pub struct Past {
 }
 
 // The past before any command was sent.
+#[tactic(auto, unfolding(crate::specs::Ages::fresh_of))]
 pub fn fresh() -> Past
     ensures { result ≡ fresh_of }
 {
@@ -37,6 +38,7 @@ pub fn fresh() -> Past
 }
 
 // Is a bank open? One that a device cannot have is closed.
+#[tactic(auto, unfolding(crate::specs::Ages::open_in))]
 pub fn is_open(opened: &[bool; 4], bank: Bank) -> bool
     ensures { result ≡ open_in opened.now bank.0 }
 {
@@ -48,6 +50,7 @@ pub fn is_open(opened: &[bool; 4], bank: Bank) -> bool
 }
 
 // The row that was opened last in a bank, row 0 in one that a device cannot have.
+#[tactic(auto, unfolding(crate::specs::Ages::row_in))]
 pub fn row_in(rows: &[u16; 4], bank: Bank) -> Row
     ensures { result ≡ row_in rows.now bank.0 }
 {
@@ -59,6 +62,7 @@ pub fn row_in(rows: &[u16; 4], bank: Bank) -> Row
 }
 
 // Are all banks closed, whatever rows were opened last?
+#[tactic(auto, using(crate::proofs::Record::closed_is))]
 pub fn all_closed(opened: &[bool; 4]) -> bool
     ensures { (rows : List ℕ) → result ≡ all_closed (open_rows opened.now rows) }
 {

@@ -10,6 +10,7 @@ use address::{Bank, Row};
 use ages::CAP;
 
 // An age after a slot whose command doesn't start its distances.
+#[tactic(auto, unfolding(ages::specs::Ages::aged_of))]
 fn aged(age: u8) -> u8
     ensures { result ≡ aged_of false age }
 {
@@ -20,6 +21,7 @@ fn aged(age: u8) -> u8
 }
 
 // A slot passes.
+#[tactic(auto, using(crate::proofs::Loop::changed, crate::proofs::Loop::changed_next, crate::proofs::Loop::changed_all, crate::proofs::Loop::changed_length))]
 pub fn elapse(ages: &mut [u8; 16])
     ensures { ages.new ≡ map (aged_of false) ages.old }
 {

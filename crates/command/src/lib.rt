@@ -3,7 +3,7 @@
 
 use address::{Bank, Column, Row};
 
-#[derive(Drop)]
+#[derive(Clone, Copy)]
 pub enum Command {
     Nop,
     // Opens a row.

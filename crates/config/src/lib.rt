@@ -7,7 +7,7 @@ ghost use Rattle.config.specs.Setting.{no_config, offered_of, geometry_of, confi
 ghost use Rattle.config.specs.Accepted.{outside_of, shaped_of, distances_of, spanned_of, accepted_of};
 
 // The device's shape: how many bits number its columns, banks and rows.
-#[derive(Drop)]
+#[derive(Clone, Copy)]
 pub struct Geometry {
     pub columns: u8,
     pub banks: u8,
@@ -15,7 +15,7 @@ pub struct Geometry {
 }
 
 // A configuration. Distances are in slots; rr is the refresh interval; access and refresh are document 01's spans A and F.
-#[derive(Drop)]
+#[derive(Clone, Copy)]
 pub struct Config {
     pub geometry: Geometry,
     pub latency: u8,
@@ -39,6 +39,7 @@ pub struct Setting {
 }
 
 // Does every field of CFG and ROW hold a value that is offered?
+#[tactic(auto, unfolding(crate::specs::Setting::offered_of))]
 fn offered(cfg: u32, row: u32) -> bool
     ensures { result ≡ offered_of cfg row }
 {
@@ -65,6 +66,7 @@ fn offered(cfg: u32, row: u32) -> bool
 }
 
 // The geometry that CFG and ROW describe.
+#[tactic(auto, unfolding(crate::specs::Setting::geometry_of))]
 pub fn shape(cfg: u32, row: u32) -> Geometry
     ensures { result ≡ geometry_of cfg row }
 {
@@ -110,6 +112,7 @@ fn refresh_span(m: u8, rp: u8, rc: u8, rfc: u8) -> u32
 }
 
 // The configuration that the words describe, whether or not it is accepted.
+#[tactic(auto, unfolding(crate::specs::Setting::config_of))]
 fn described(cfg: u32, row: u32, refr: u32, tim: u32) -> Config
     ensures { result ≡ config_of cfg row refr tim }
 {
@@ -180,6 +183,7 @@ fn too_short(rr: u16, access: u8, refresh: u8) -> bool
 }
 
 // Number 3 where the interval is too short.
+#[tactic(auto, unfolding(crate::specs::Setting::checked_of))]
 fn checked(config: Config) -> Setting
     ensures { result ≡ checked_of config }
 {
@@ -190,6 +194,7 @@ fn checked(config: Config) -> Setting
 }
 
 // The configuration that four register words give, or the number that refuses them.
+#[tactic(auto, unfolding(crate::specs::Setting::setting_of))]
 pub fn configure(cfg: u32, row: u32, refr: u32, tim: u32) -> Setting
     ensures { result ≡ setting_of cfg row refr tim }
 {
@@ -203,6 +208,7 @@ pub fn configure(cfg: u32, row: u32, refr: u32, tim: u32) -> Setting
 }
 
 // The number that the standalone map's two words give.
+#[tactic(auto, unfolding(crate::specs::Setting::map_number_of))]
 pub fn map_number(cfg: u32, row: u32) -> u8
     ensures { result ≡ map_number_of cfg row }
 {
@@ -225,6 +231,7 @@ fn outside(low: u8, high: u8, n: u8) -> bool
 }
 
 // Are the widths ones that are offered?
+#[tactic(auto, unfolding(crate::specs::Accepted::shaped_of))]
 fn shaped(g: Geometry) -> bool
     ensures { result ≡ shaped_of g }
 {
@@ -240,6 +247,7 @@ fn shaped(g: Geometry) -> bool
     true
 }
 
+#[tactic(auto, unfolding(crate::specs::Accepted::distances_of))]
 fn distances(c: Config) -> bool
     ensures { result ≡ distances_of c }
 {
@@ -271,6 +279,7 @@ fn distances(c: Config) -> bool
 }
 
 // Are the spans those of the distances, and is the interval long enough?
+#[tactic(auto, unfolding(crate::specs::Accepted::spanned_of))]
 fn spanned(c: Config) -> bool
     ensures { result ≡ spanned_of c }
 {
@@ -291,6 +300,7 @@ fn spanned(c: Config) -> bool
 }
 
 // Is this a configuration that the register words can give?
+#[tactic(auto, unfolding(crate::specs::Accepted::accepted_of))]
 pub fn accepted(c: Config) -> bool
     ensures { result ≡ accepted_of c }
 {

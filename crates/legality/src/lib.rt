@@ -14,6 +14,7 @@ use command::Command;
 use config::Config;
 
 // R2.
+#[tactic(auto, unfolding(crate::specs::Verdict::settled_of))]
 fn settled(c: Config, ages: &[u8; 16]) -> bool
     ensures { result ≡ settled_of c ages.now }
 {
@@ -37,6 +38,7 @@ fn apart(age: u8, other: u8, b: u8, distance: u8) -> bool
 }
 
 // R7.
+#[tactic(auto, using(device::proofs::Tests::passed, device::proofs::Tests::failed), unfolding(device::specs::Rules::R7))]
 fn all_apart(c: Config, ages: &[u8; 16], b: u8) -> bool
     ensures { (opened : List Bool) (rows : List ℕ) (programmed : Bool) → result ≡ all_hold (R7 (by_ages c (past_of ages.now opened rows programmed)) b) }
 {
@@ -66,6 +68,7 @@ fn free(opened: bool, age: u8, distance: u8) -> bool
 }
 
 // R12 for a DEAC.
+#[tactic(auto, using(device::proofs::Tests::passed, device::proofs::Tests::failed))]
 fn all_active(c: Config, ages: &[u8; 16], opened: &[bool; 4]) -> bool
     ensures { (rows : List ℕ) (programmed : Bool) → result ≡ all_hold (R12-open (by_ages c (past_of ages.now opened.now rows programmed))) }
 {
@@ -85,6 +88,7 @@ fn all_active(c: Config, ages: &[u8; 16], opened: &[bool; 4]) -> bool
 }
 
 // R13 for a DEAC.
+#[tactic(auto, using(device::proofs::Tests::passed, device::proofs::Tests::failed))]
 fn all_written(c: Config, ages: &[u8; 16], opened: &[bool; 4]) -> bool
     ensures { (rows : List ℕ) (programmed : Bool) → result ≡ all_hold (R13-open (by_ages c (past_of ages.now opened.now rows programmed))) }
 {
@@ -104,6 +108,7 @@ fn all_written(c: Config, ages: &[u8; 16], opened: &[bool; 4]) -> bool
 }
 
 // R2, R14 and R15, which REFR and MRS have in common: all banks are closed, and long enough.
+#[tactic(auto, using(device::proofs::Tests::passed, device::proofs::Tests::failed, crate::proofs::Hold::precharged_is))]
 fn all_precharged(c: Config, ages: &[u8; 16], opened: &[bool; 4]) -> bool
     ensures { (rows : List ℕ) (programmed : Bool) → result ≡ precharged_of (by_ages c (past_of ages.now opened.now rows programmed)) }
 {
@@ -120,6 +125,7 @@ fn all_precharged(c: Config, ages: &[u8; 16], opened: &[bool; 4]) -> bool
 }
 
 // R16: tRC after every bank's ACT.
+#[tactic(auto, unfolding(device::specs::Rules::R16))]
 fn all_row_cycled(c: Config, ages: &[u8; 16]) -> bool
     ensures { (opened : List Bool) (rows : List ℕ) (programmed : Bool) → result ≡ all_hold (R16 (by_ages c (past_of ages.now opened rows programmed))) }
 {
@@ -146,6 +152,7 @@ fn read_to_write(age: u8, latency: u8) -> bool
 }
 
 // ACT: R1 to R7.
+#[tactic(auto, using(device::proofs::Alike::in_four, ages::proofs::Record::open_here, device::proofs::Tests::passed, device::proofs::Tests::failed, device::proofs::Tests::true_and, crate::proofs::Hold::act_is))]
 pub fn act_legal(
     c: Config,
     ages: &[u8; 16],
@@ -183,6 +190,7 @@ pub fn act_legal(
 }
 
 // READ: R1, R2, R8, R9.
+#[tactic(auto, using(device::proofs::Alike::in_four, ages::proofs::Record::open_here, device::proofs::Tests::passed, device::proofs::Tests::failed, crate::proofs::Hold::read_is))]
 pub fn read_legal(
     c: Config,
     ages: &[u8; 16],
@@ -213,6 +221,7 @@ pub fn read_legal(
 }
 
 // WRT: READ's rules and R10. The halfword doesn't matter.
+#[tactic(auto, using(device::proofs::Tests::failed, crate::proofs::Hold::wrt_is))]
 pub fn wrt_legal(c: Config, ages: &[u8; 16], opened: &[bool; 4], bank: Bank, column: Column) -> bool
     requires { Shaped c.geometry }
     ensures { Verdict c ages.now opened.now (Command.Wrt bank column 0) result }
@@ -224,6 +233,7 @@ pub fn wrt_legal(c: Config, ages: &[u8; 16], opened: &[bool; 4], bank: Bank, col
 }
 
 // PRE: R1, R2, R11, R12, R13.
+#[tactic(auto, using(device::proofs::Alike::in_four, ages::proofs::Record::open_here, device::proofs::Tests::passed, device::proofs::Tests::failed, crate::proofs::Hold::pre_is))]
 pub fn pre_legal(c: Config, ages: &[u8; 16], opened: &[bool; 4], bank: Bank) -> bool
     requires { Shaped c.geometry }
     ensures { Verdict c ages.now opened.now (Command.Pre bank) result }
@@ -248,6 +258,7 @@ pub fn pre_legal(c: Config, ages: &[u8; 16], opened: &[bool; 4], bank: Bank) -> 
 }
 
 // DEAC: R2, R12, R13.
+#[tactic(auto, using(device::proofs::Tests::passed, device::proofs::Tests::failed, crate::proofs::Hold::deac_is))]
 pub fn deac_legal(c: Config, ages: &[u8; 16], opened: &[bool; 4]) -> bool
     ensures { Verdict c ages.now opened.now Command.Deac result }
 {
@@ -261,6 +272,7 @@ pub fn deac_legal(c: Config, ages: &[u8; 16], opened: &[bool; 4]) -> bool
 }
 
 // REFR: R2, R14, R15, R16.
+#[tactic(auto, using(device::proofs::Parts::refr_parts, device::proofs::Tests::passed, device::proofs::Tests::failed))]
 pub fn refr_legal(c: Config, ages: &[u8; 16], opened: &[bool; 4]) -> bool
     ensures { Verdict c ages.now opened.now Command.Refr result }
 {
@@ -271,6 +283,7 @@ pub fn refr_legal(c: Config, ages: &[u8; 16], opened: &[bool; 4]) -> bool
 }
 
 // MRS: R1, R2, R14, R15.
+#[tactic(auto, using(device::proofs::Parts::mrs_parts))]
 pub fn mrs_legal(c: Config, ages: &[u8; 16], opened: &[bool; 4], word: u16) -> bool
     ensures { Verdict c ages.now opened.now (Command.Mrs word) result }
 {

@@ -5,7 +5,7 @@ ghost use Rattle.std.specs.Prelude.{◌≡◌, ◌<◌};
 ghost use Rattle.number.specs.Number.{digit_of, joined_of, more_decimal, more_hex, first_byte, after_zero, number_of, value_of};
 
 // A number, as far as it has been read.
-#[derive(Drop)]
+#[derive(Clone, Copy)]
 pub enum Number {
     // No byte.
     Empty,
@@ -23,6 +23,7 @@ pub enum Number {
 pub const NONE: u64 = 4294967296;
 
 // The value of a digit, and 16 for a byte that is none.
+#[tactic(auto, unfolding(crate::specs::Number::digit_of))]
 fn digit(byte: u8) -> u8
     ensures { result ≡ digit_of byte }
 {
@@ -48,6 +49,7 @@ fn digit(byte: u8) -> u8
 }
 
 // `high` and a digit of the base; NONE where the byte is no such digit, or 32 bits do not hold the sum.
+#[tactic(auto, unfolding(crate::specs::Number::joined_of))]
 fn joined(high: u64, base: u8, byte: u8) -> u64
     requires { high < 1099511627776 }
     ensures { result ≡ joined_of high base byte }
@@ -64,6 +66,7 @@ fn joined(high: u64, base: u8, byte: u8) -> u64
 }
 
 // A decimal number with one byte more.
+#[tactic(auto, unfolding(crate::specs::Number::more_decimal))]
 fn decimal(value: u32, byte: u8) -> Number
     ensures { result ≡ more_decimal value byte }
 {
@@ -75,6 +78,7 @@ fn decimal(value: u32, byte: u8) -> Number
 }
 
 // A hexadecimal number with one byte more.
+#[tactic(auto, unfolding(crate::specs::Number::more_hex))]
 fn hex(value: u32, byte: u8) -> Number
     ensures { result ≡ more_hex value byte }
 {
@@ -85,6 +89,7 @@ fn hex(value: u32, byte: u8) -> Number
     Number::Hex(n as u32)
 }
 
+#[tactic(auto, unfolding(crate::specs::Number::first_byte))]
 fn first_byte(byte: u8) -> Number
     ensures { result ≡ first_byte byte }
 {
@@ -94,6 +99,7 @@ fn first_byte(byte: u8) -> Number
     decimal(0, byte)
 }
 
+#[tactic(auto, unfolding(crate::specs::Number::after_zero))]
 fn after_zero(byte: u8) -> Number
     ensures { result ≡ after_zero byte }
 {
@@ -105,6 +111,7 @@ fn after_zero(byte: u8) -> Number
 
 impl Number {
     // One byte more.
+    #[tactic(auto, unfolding(crate::specs::Number::number_of))]
     pub fn take(self, byte: u8) -> Number
         ensures { result ≡ number_of self byte }
     {
@@ -119,6 +126,7 @@ impl Number {
     }
 
     // Its value, where the word ends here; NONE where it is no number.
+    #[tactic(auto, unfolding(crate::specs::Number::value_of))]
     pub fn value(self) -> u64
         ensures { result ≡ value_of self }
     {

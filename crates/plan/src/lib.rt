@@ -4,7 +4,7 @@
 // The action under way. The first five are the initialisation. All counts and places are of one width, so that an action has no padding.
 #![tactic(auto)]
 
-#[derive(Drop)]
+#[derive(Clone, Copy)]
 pub enum Action {
     // So many slots of NOP are left of the pause.
     PowerUp(u16),
@@ -33,14 +33,14 @@ pub enum Action {
 }
 
 // The action under way, and is a Must run on?
-#[derive(Drop)]
+#[derive(Clone, Copy)]
 pub struct Control {
     pub action: Action,
     pub must: bool,
 }
 
 // What a slot reports: a read with its number and halfword, or a write with its number.
-#[derive(Drop)]
+#[derive(Clone, Copy)]
 pub enum Report {
     Nothing,
     Read(u32, u16),

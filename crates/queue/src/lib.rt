@@ -9,14 +9,14 @@ ghost use Rattle.std.specs.Prelude.{◌≡◌};
 use address::Cell;
 use config::Geometry;
 
-#[derive(Drop)]
+#[derive(Clone, Copy)]
 pub enum Kind {
     Read,
     Write,
 }
 
 // One accepted request: its number and its byte address, of which the cell is made when it is served (`cell`). A read's halfword means nothing.
-#[derive(Drop)]
+#[derive(Clone, Copy)]
 pub struct Request {
     pub number: u32,
     pub address: u32,
@@ -26,7 +26,7 @@ pub struct Request {
 
 // Oldest first, in eight places. The array has the requests' eight numbers, then their eight addresses, then their eight halfwords, a write's with 65,536
 // added: an array of numbers can be lent and changed in place. A place from count on has zeros, the blank request.
-#[derive(Drop)]
+#[derive(Clone, Copy)]
 pub struct Queue {
     pub places: [u32; 24],
     pub count: u32,

@@ -7,14 +7,14 @@ ghost use Rattle.refresh.specs.Urgency.{level_of, run_of};
 ghost use Rattle.std.specs.Prelude.{◌≡◌};
 
 // The two counters. A sound record has an interval of 1 at least; 0 is treated as 1.
-#[derive(Drop)]
+#[derive(Clone, Copy)]
 pub struct Counters {
     pub interval: u16,
     pub backlog: u8,
 }
 
 // How urgent a refresh is. Source documents 000 and 001 name all but Clear, at which none is owed.
-#[derive(Drop)]
+#[derive(Clone, Copy)]
 pub enum Level {
     Clear,
     May,
@@ -35,6 +35,7 @@ fn raised(backlog: u8) -> u8
 
 impl Counters {
     // As the first service slot finds them.
+    #[tactic(auto, unfolding(crate::specs::Counting::start_of))]
     pub fn start(rr: u16) -> Counters
         ensures { result ≡ start_of rr }
     {
@@ -52,6 +53,7 @@ impl Counters {
     }
 
     // One service slot.
+    #[tactic(auto, unfolding(crate::specs::Counting::tick_of))]
     pub fn tick(self, rr: u16) -> Counters
         ensures { result ≡ tick_of self rr }
     {
@@ -68,6 +70,7 @@ impl Counters {
     }
 
     // A service REFR is sent.
+    #[tactic(auto, unfolding(crate::specs::Counting::refreshed_of))]
     pub fn refreshed(self) -> Counters
         ensures { result ≡ refreshed_of self }
     {
@@ -81,6 +84,7 @@ impl Counters {
     }
 
     // Soundness, their part of the test for number 9: the interval is 1 to RR, the backlog 15 at most.
+    #[tactic(auto, unfolding(crate::specs::Counting::sound_counters))]
     pub fn sound(self, rr: u16) -> bool
         ensures { result ≡ sound_counters rr self }
     {
@@ -98,6 +102,7 @@ impl Counters {
 }
 
 // The urgency of a backlog.
+#[tactic(auto, using(crate::proofs::Levels::level_at))]
 pub fn urgency(backlog: u8) -> Level
     ensures { result ≡ level_of backlog }
 {

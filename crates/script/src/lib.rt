@@ -99,6 +99,7 @@ pub const BUS: u64 = 0x627573;
 pub const SLOTS: u64 = 0x736c6f7473;
 
 // The call `address`, from its five numbers.
+#[tactic(auto, unfolding(crate::specs::Line::place_call))]
 fn place(cfg: u32, row: u32, bank: u32, rownumber: u32, column: u32) -> Call
     ensures { result ≡ place_call cfg row bank rownumber column }
 {
@@ -120,6 +121,7 @@ fn place(cfg: u32, row: u32, bank: u32, rownumber: u32, column: u32) -> Call
 }
 
 // Is one of the numbers more than a halfword, where that is known of those before this one?
+#[tactic(auto, unfolding(crate::specs::Line::wide_of))]
 fn wider(wide: bool, value: u64) -> bool
     ensures { result ≡ wide_of wide value }
 {
@@ -131,6 +133,7 @@ fn wider(wide: bool, value: u64) -> bool
 
 impl Words {
     // The line is no call.
+    #[tactic(auto, unfolding(crate::specs::Line::ruined_of))]
     fn ruined(self) -> Words
         ensures { result ≡ ruined_of self }
     {
@@ -144,6 +147,7 @@ impl Words {
     }
 
     // One byte more of the name.
+    #[tactic(auto, unfolding(crate::specs::Line::letter_of))]
     fn letter(self, byte: u8) -> Words
         ensures { result ≡ letter_of self byte }
     {
@@ -168,6 +172,7 @@ impl Words {
     }
 
     // One byte more of a number.
+    #[tactic(auto, unfolding(crate::specs::Line::figure_of))]
     fn figure(self, byte: u8) -> Words
         ensures { result ≡ figure_of self byte }
     {
@@ -183,6 +188,7 @@ impl Words {
     }
 
     // The word under way has ended, and the next one begins.
+    #[tactic(auto, unfolding(crate::specs::Line::next_of))]
     fn next(self) -> Words
         ensures { result ≡ next_of self }
     {
@@ -213,6 +219,7 @@ impl Words {
     }
 
     // The word under way ends here: a number is put into its place.
+    #[tactic(auto, unfolding(crate::specs::Line::kept_of))]
     fn keep(self, given: &mut [u32; NUMBERS])
         ensures { given.new ≡ kept_of self given.old }
     {
@@ -232,6 +239,7 @@ impl Words {
     }
 
     // One byte more.
+    #[tactic(auto, unfolding(crate::specs::Line::words_of))]
     fn take(self, byte: u8) -> Words
         ensures { result ≡ words_of self byte }
     {
@@ -244,6 +252,7 @@ impl Words {
         self.figure(byte)
     }
 
+    #[tactic(auto, unfolding(crate::specs::Line::config_call))]
     fn config(self, n: &[u32; NUMBERS]) -> Call
         ensures { result ≡ config_call self n.now }
     {
@@ -253,6 +262,7 @@ impl Words {
         Call::Wrong
     }
 
+    #[tactic(auto, unfolding(crate::specs::Line::read_call))]
     fn read(self, n: &[u32; NUMBERS]) -> Call
         ensures { result ≡ read_call self n.now }
     {
@@ -262,6 +272,7 @@ impl Words {
         Call::Wrong
     }
 
+    #[tactic(auto, unfolding(crate::specs::Line::write_call))]
     fn write(self, n: &[u32; NUMBERS]) -> Call
         ensures { result ≡ write_call self n.now }
     {
@@ -275,6 +286,7 @@ impl Words {
         Call::Wrong
     }
 
+    #[tactic(auto, unfolding(crate::specs::Line::slot_call))]
     fn slot(self, n: &[u32; NUMBERS]) -> Call
         ensures { result ≡ slot_call self n.now }
     {
@@ -288,6 +300,7 @@ impl Words {
         Call::Wrong
     }
 
+    #[tactic(auto, unfolding(crate::specs::Line::backlog_call))]
     fn backlog(self) -> Call
         ensures { result ≡ backlog_call self }
     {
@@ -297,6 +310,7 @@ impl Words {
         Call::Wrong
     }
 
+    #[tactic(auto, unfolding(crate::specs::Line::cell_call))]
     fn cell(self, n: &[u32; NUMBERS]) -> Call
         ensures { result ≡ cell_call self n.now }
     {
@@ -306,6 +320,7 @@ impl Words {
         Call::Wrong
     }
 
+    #[tactic(auto, unfolding(crate::specs::Line::address_call))]
     fn address(self, n: &[u32; NUMBERS]) -> Call
         ensures { result ≡ address_call self n.now }
     {
@@ -315,6 +330,7 @@ impl Words {
         Call::Wrong
     }
 
+    #[tactic(auto, unfolding(crate::specs::Line::bus_call))]
     fn bus(self) -> Call
         ensures { result ≡ bus_call self }
     {
@@ -327,6 +343,7 @@ impl Words {
         Call::Bus(self.at - 1)
     }
 
+    #[tactic(auto, unfolding(crate::specs::Line::slots_call))]
     fn slots(self, n: &[u32; NUMBERS]) -> Call
         ensures { result ≡ slots_call self n.now }
     {
@@ -345,6 +362,7 @@ impl Words {
     }
 
     // The call that the words make, the last one ended.
+    #[tactic(auto, unfolding(crate::specs::Line::call_of))]
     fn call(self, given: &[u32; NUMBERS]) -> Call
         ensures { result ≡ call_of self given.now }
     {
@@ -369,6 +387,7 @@ impl Words {
 
 impl Line {
     // No byte yet.
+    #[tactic(auto, unfolding(crate::specs::Line::no_words, crate::specs::Line::no_line))]
     pub fn empty() -> Line
         ensures { result ≡ no_line }
     {
@@ -387,6 +406,7 @@ impl Line {
     }
 
     // The byte that is taken next: where it ends a number, that is put into its place.
+    #[tactic(auto, unfolding(crate::specs::Line::noted_of))]
     pub fn note(self, byte: u8, given: &mut [u32; NUMBERS])
         ensures { given.new ≡ noted_of self byte given.old }
     {
@@ -405,6 +425,7 @@ impl Line {
     }
 
     // One byte more, which is no line feed.
+    #[tactic(auto, unfolding(crate::specs::Line::take_of))]
     pub fn take(self, byte: u8) -> Line
         ensures { result ≡ take_of self byte }
     {
@@ -432,6 +453,7 @@ impl Line {
     }
 
     // The call that the line is, where it ends here, with its numbers.
+    #[tactic(auto, unfolding(crate::specs::Line::line_call))]
     pub fn call(self, given: &[u32; NUMBERS]) -> Call
         ensures { result ≡ line_call self given.now }
     {

@@ -25,7 +25,7 @@ use queue::{Kind, Queue, Request};
 use refresh::Counters;
 
 // The whole machine. One that is not configured is blank.
-#[derive(Drop)]
+#[derive(Clone, Copy)]
 pub struct Machine {
     pub queue: Queue,
     pub past: Past,

@@ -43,6 +43,7 @@ pub fn kept(last: &[u64; 16], i: usize, distance: u8, clock: u64) -> bool
 }
 
 // Is a bank open?
+#[tactic(auto, unfolding(crate::specs::Stamps::open_at))]
 pub fn is_open(last: &[u64; 16], b: usize) -> bool
     requires { b < 4 }
     ensures { result ≡ open_at last.now b }
@@ -59,6 +60,7 @@ pub fn is_programmed(last: &[u64; 16]) -> bool
 
 // What each command leaves, sent in the slot in which the clock shows `clock`.
 
+#[tactic(auto, using(crate::proofs::Noted::act_noted))]
 pub fn note_act(last: &mut [u64; 16], bank: Bank, clock: u64)
     requires { (length last.old ≡ 16) × (bank.0 < 4) }
     ensures { (row : Row) → last.new ≡ stamped_of clock (Command.Act bank row) last.old }
@@ -67,6 +69,7 @@ pub fn note_act(last: &mut [u64; 16], bank: Bank, clock: u64)
     last[b] = clock;
 }
 
+#[tactic(auto, using(crate::proofs::Noted::read_noted))]
 pub fn note_read(last: &mut [u64; 16], clock: u64)
     requires { length last.old ≡ 16 }
     ensures { (bank : Bank) (column : Column) → last.new ≡ stamped_of clock (Command.Read bank column) last.old }
@@ -74,6 +77,7 @@ pub fn note_read(last: &mut [u64; 16], clock: u64)
     last[11] = clock;
 }
 
+#[tactic(auto, using(crate::proofs::Noted::wrt_noted))]
 pub fn note_wrt(last: &mut [u64; 16], bank: Bank, clock: u64)
     requires { (length last.old ≡ 16) × (bank.0 < 4) }
     ensures { (column : Column) (halfword : ℕ) → last.new ≡ stamped_of clock (Command.Wrt bank column halfword) last.old }
@@ -82,6 +86,7 @@ pub fn note_wrt(last: &mut [u64; 16], bank: Bank, clock: u64)
     last[12 + b] = clock;
 }
 
+#[tactic(auto, using(crate::proofs::Noted::pre_noted))]
 pub fn note_pre(last: &mut [u64; 16], bank: Bank, clock: u64)
     requires { (length last.old ≡ 16) × (bank.0 < 4) }
     ensures { last.new ≡ stamped_of clock (Command.Pre bank) last.old }
@@ -91,6 +96,7 @@ pub fn note_pre(last: &mut [u64; 16], bank: Bank, clock: u64)
     last[10] = clock;
 }
 
+#[tactic(auto, using(crate::proofs::Noted::deac_noted))]
 pub fn note_deac(last: &mut [u64; 16], clock: u64)
     requires { length last.old ≡ 16 }
     ensures { last.new ≡ stamped_of clock Command.Deac last.old }
@@ -102,6 +108,7 @@ pub fn note_deac(last: &mut [u64; 16], clock: u64)
     last[10] = clock;
 }
 
+#[tactic(auto, using(crate::proofs::Noted::refr_noted))]
 pub fn note_refr(last: &mut [u64; 16], clock: u64)
     requires { length last.old ≡ 16 }
     ensures { last.new ≡ stamped_of clock Command.Refr last.old }
@@ -109,6 +116,7 @@ pub fn note_refr(last: &mut [u64; 16], clock: u64)
     last[8] = clock;
 }
 
+#[tactic(auto, using(crate::proofs::Noted::mrs_noted))]
 pub fn note_mrs(last: &mut [u64; 16], clock: u64)
     requires { length last.old ≡ 16 }
     ensures { (word : ℕ) → last.new ≡ stamped_of clock (Command.Mrs word) last.old }

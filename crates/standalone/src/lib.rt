@@ -23,6 +23,7 @@ pub struct ToAddress {
 }
 
 // Does the cell lie in the geometry?
+#[tactic(auto, unfolding(address::specs::Map::holds_of))]
 fn holds(g: Geometry, cell: Cell) -> bool
     requires { Shaped g }
     ensures { result ≡ holds_of g cell }
@@ -40,6 +41,7 @@ fn holds(g: Geometry, cell: Cell) -> bool
 }
 
 // The address of a cell within the geometry.
+#[tactic(auto, using(address::proofs::Laws::holds_true, address::proofs::Laws::page_below, address::proofs::Laws::word_below, address::proofs::Laws::page_small, address::proofs::Laws::word_small), unfolding(address::specs::Map::address_of, address::specs::Map::holds_of))]
 fn address_of(g: Geometry, cell: Cell) -> u32
     requires shaped { Shaped g }
     requires cell_value { holds_of g cell ≡ true }
@@ -68,6 +70,7 @@ fn no_address(number: u8) -> ToAddress
     ToAddress { number, address: 0 }
 }
 
+#[tactic(auto, unfolding(crate::specs::Standalone::located_of))]
 fn located(g: Geometry, address: u32) -> ToCell
     requires { Shaped g }
     ensures { result ≡ located_of g address }
@@ -80,6 +83,7 @@ fn located(g: Geometry, address: u32) -> ToCell
     ToCell { number: 0, cell }
 }
 
+#[tactic(auto, unfolding(crate::specs::Standalone::addressed_of))]
 fn addressed(g: Geometry, cell: Cell) -> ToAddress
     requires { Shaped g }
     ensures { result ≡ addressed_of g cell }
@@ -92,6 +96,7 @@ fn addressed(g: Geometry, cell: Cell) -> ToAddress
 }
 
 // The standalone map, address to cell: numbers 1 and 2 for the words, then 4 and 5.
+#[tactic(auto, using(config::proofs::Laws::shaped), unfolding(crate::specs::Standalone::to_cell_of))]
 pub fn to_cell(cfg: u32, row: u32, address: u32) -> ToCell
     ensures { result ≡ to_cell_of cfg row address }
 {
@@ -103,6 +108,7 @@ pub fn to_cell(cfg: u32, row: u32, address: u32) -> ToCell
 }
 
 // The standalone map, cell to address: numbers 1 and 2 for the words, then 10.
+#[tactic(auto, using(config::proofs::Laws::shaped), unfolding(crate::specs::Standalone::to_address_of))]
 pub fn to_address(cfg: u32, row: u32, cell: Cell) -> ToAddress
     ensures { result ≡ to_address_of cfg row cell }
 {

@@ -4,7 +4,7 @@
 use command::Command;
 
 // Why a record is refused.
-#[derive(Drop)]
+#[derive(Clone, Copy)]
 pub enum Refusal {
     // 11: no record has this kind.
     Kind,
@@ -15,7 +15,7 @@ pub enum Refusal {
 }
 
 // What the reader finds at a place of a tape.
-#[derive(Drop)]
+#[derive(Clone, Copy)]
 pub enum Item {
     // The tape has no more records.
     End,

@@ -15,6 +15,7 @@ use command::Command;
 use config::Config;
 
 // R2.
+#[tactic(auto, unfolding(crate::specs::Tests::settled_of))]
 pub fn settled(c: Config, last: &[u64; 16], clock: u64) -> bool
     requires { Clocked last.now clock }
     ensures { result ≡ settled_of c last.now clock }
@@ -35,6 +36,7 @@ fn later(a: u64, b: u64) -> u64
 }
 
 // The latest ACT of all banks.
+#[tactic(auto, unfolding(crate::specs::Tests::latest_of))]
 fn latest_act(last: &[u64; 16]) -> u64
     ensures { result ≡ latest_of last.now }
 {
@@ -53,6 +55,7 @@ fn apart(last: &[u64; 16], other: u8, own: u8, distance: u8, clock: u64) -> bool
 }
 
 // R7, bank by bank.
+#[tactic(auto, using(device::proofs::Tests::failed, device::proofs::Tests::passed))]
 fn each_apart(c: Config, last: &[u64; 16], own: u8, clock: u64) -> bool
     requires { Clocked last.now clock }
     ensures { result ≡ all_hold (R7 (by_stamps c last.now clock) own) }
@@ -70,6 +73,7 @@ fn each_apart(c: Config, last: &[u64; 16], own: u8, clock: u64) -> bool
 }
 
 // R7. As a rule the latest ACT of all banks is far enough back, and then each is.
+#[tactic(auto, using(device::proofs::Tests::told, crate::proofs::Hold::latest_earlier))]
 pub fn all_apart(c: Config, last: &[u64; 16], own: u8, clock: u64) -> bool
     requires { Clocked last.now clock }
     ensures { result ≡ all_hold (R7 (by_stamps c last.now clock) own) }
@@ -81,6 +85,7 @@ pub fn all_apart(c: Config, last: &[u64; 16], own: u8, clock: u64) -> bool
 }
 
 // R12 or R13 for a DEAC, as one bank has it: its ACT or WRT stands at its number from a place on, and is far enough back if the bank is open.
+#[tactic(auto, unfolding(crate::specs::Tests::free_of))]
 pub fn free(last: &[u64; 16], from: usize, b: usize, distance: u8, clock: u64) -> bool
     requires { (from ≤ 12) × (b < 4) × Clocked last.now clock }
     ensures { result ≡ free_of last.now from distance clock b }
@@ -92,6 +97,7 @@ pub fn free(last: &[u64; 16], from: usize, b: usize, distance: u8, clock: u64) -
 }
 
 // R12 or R13 for a DEAC.
+#[tactic(auto, using(device::proofs::Tests::failed, device::proofs::Tests::passed))]
 fn all_free(last: &[u64; 16], from: usize, distance: u8, clock: u64) -> bool
     requires { (from ≤ 12) × Clocked last.now clock }
     ensures { result ≡ all_free_of last.now from distance clock }
@@ -109,6 +115,7 @@ fn all_free(last: &[u64; 16], from: usize, distance: u8, clock: u64) -> bool
 }
 
 // R14.
+#[tactic(auto, using(device::proofs::Tests::told, crate::proofs::Hold::closed_is))]
 fn all_closed(c: Config, last: &[u64; 16], clock: u64) -> bool
     ensures { result ≡ all_closed (by_stamps c last.now clock).row }
 {
@@ -125,6 +132,7 @@ fn all_closed(c: Config, last: &[u64; 16], clock: u64) -> bool
 }
 
 // R2, R14 and R15, which REFR and MRS have in common: all banks are closed, and long enough.
+#[tactic(auto, using(device::proofs::Tests::failed, device::proofs::Tests::passed, crate::proofs::Hold::precharged_is))]
 fn all_precharged(c: Config, last: &[u64; 16], clock: u64) -> bool
     requires { Clocked last.now clock }
     ensures { result ≡ precharged_of (by_stamps c last.now clock) }
@@ -139,6 +147,7 @@ fn all_precharged(c: Config, last: &[u64; 16], clock: u64) -> bool
 }
 
 // R16: tRC after every bank's ACT.
+#[tactic(auto, using(device::proofs::Tests::failed, device::proofs::Tests::passed))]
 fn all_row_cycled(c: Config, last: &[u64; 16], clock: u64) -> bool
     requires { Clocked last.now clock }
     ensures { result ≡ all_hold (R16 (by_stamps c last.now clock)) }
@@ -156,6 +165,7 @@ fn all_row_cycled(c: Config, last: &[u64; 16], clock: u64) -> bool
 }
 
 // ACT: R1 to R7.
+#[tactic(auto, using(device::proofs::Alike::in_four, device::proofs::Tests::true_and, device::proofs::Tests::failed, device::proofs::Tests::passed, device::proofs::Tests::told, crate::proofs::Hold::act_is))]
 pub fn act_legal(c: Config, last: &[u64; 16], clock: u64, bank: Bank, row: Row) -> bool
     requires { Accepted c × Clocked last.now clock }
     ensures { result ≡ legal_of c (by_stamps c last.now clock) (Command.Act bank row) }
@@ -186,6 +196,7 @@ pub fn act_legal(c: Config, last: &[u64; 16], clock: u64, bank: Bank, row: Row) 
 }
 
 // READ: R1, R2, R8, R9.
+#[tactic(auto, using(device::proofs::Alike::in_four, device::proofs::Tests::failed, device::proofs::Tests::passed, crate::proofs::Hold::read_is))]
 pub fn read_legal(c: Config, last: &[u64; 16], clock: u64, bank: Bank, column: Column) -> bool
     requires { Accepted c × Clocked last.now clock }
     ensures { result ≡ legal_of c (by_stamps c last.now clock) (Command.Read bank column) }
@@ -207,6 +218,7 @@ pub fn read_legal(c: Config, last: &[u64; 16], clock: u64, bank: Bank, column: C
 }
 
 // WRT: READ's rules and R10. The halfword doesn't matter.
+#[tactic(auto, using(device::proofs::Tests::failed, device::proofs::Tests::passed, crate::proofs::Hold::wrt_is))]
 pub fn wrt_legal(c: Config, last: &[u64; 16], clock: u64, bank: Bank, column: Column) -> bool
     requires { Accepted c × Clocked last.now clock }
     ensures { (halfword : ℕ) → result ≡ legal_of c (by_stamps c last.now clock) (Command.Wrt bank column halfword) }
@@ -218,6 +230,7 @@ pub fn wrt_legal(c: Config, last: &[u64; 16], clock: u64, bank: Bank, column: Co
 }
 
 // PRE: R1, R2, R11, R12, R13.
+#[tactic(auto, using(device::proofs::Alike::in_four, device::proofs::Tests::failed, device::proofs::Tests::passed, crate::proofs::Hold::pre_is))]
 pub fn pre_legal(c: Config, last: &[u64; 16], clock: u64, bank: Bank) -> bool
     requires { Accepted c × Clocked last.now clock }
     ensures { result ≡ legal_of c (by_stamps c last.now clock) (Command.Pre bank) }
@@ -239,6 +252,7 @@ pub fn pre_legal(c: Config, last: &[u64; 16], clock: u64, bank: Bank) -> bool
 }
 
 // DEAC: R2, R12, R13.
+#[tactic(auto, using(device::proofs::Tests::failed, device::proofs::Tests::passed, crate::proofs::Hold::deac_is))]
 pub fn deac_legal(c: Config, last: &[u64; 16], clock: u64) -> bool
     requires { Clocked last.now clock }
     ensures { result ≡ legal_of c (by_stamps c last.now clock) Command.Deac }
@@ -253,6 +267,7 @@ pub fn deac_legal(c: Config, last: &[u64; 16], clock: u64) -> bool
 }
 
 // REFR: R2, R14, R15, R16.
+#[tactic(auto, using(device::proofs::Parts::refr_parts, device::proofs::Tests::failed, device::proofs::Tests::passed))]
 pub fn refr_legal(c: Config, last: &[u64; 16], clock: u64) -> bool
     requires { Clocked last.now clock }
     ensures { result ≡ legal_of c (by_stamps c last.now clock) Command.Refr }
@@ -264,6 +279,7 @@ pub fn refr_legal(c: Config, last: &[u64; 16], clock: u64) -> bool
 }
 
 // MRS: R1, R2, R14, R15.
+#[tactic(auto, using(device::proofs::Parts::mrs_parts))]
 pub fn mrs_legal(c: Config, last: &[u64; 16], clock: u64, word: u16) -> bool
     requires { Clocked last.now clock }
     ensures { result ≡ legal_of c (by_stamps c last.now clock) (Command.Mrs word) }

@@ -12,6 +12,7 @@ pub struct Text {
 }
 
 // The text with the digits of n in a base after it, `most` of them at most, the highest first. The byte of the digit 0 is `zero`.
+#[tactic(auto, using(crate::proofs::Laws::spelled_more), unfolding(crate::specs::Spelling::spelled_of))]
 fn spelled(text: Text, n: u64, base: u64, zero: u64, most: usize) -> Text
     requires base_nonzero { 0 < base }
     requires base_bound { zero + base ≤ 256 }
@@ -28,6 +29,7 @@ fn spelled(text: Text, n: u64, base: u64, zero: u64, most: usize) -> Text
 }
 
 impl Text {
+    #[tactic(auto, unfolding(crate::specs::Spelling::empty_of))]
     pub fn empty() -> Text
         ensures { result ≡ empty_of }
     {
@@ -35,6 +37,7 @@ impl Text {
         Text { bytes, count: 0 }
     }
 
+    #[tactic(auto, unfolding(crate::specs::Spelling::byte_of))]
     pub fn byte(self, b: u8) -> Text
         ensures { result ≡ byte_of self b }
     {
@@ -49,12 +52,14 @@ impl Text {
     }
 
     // A word is handed in as a number, eight bits for each letter, the first letter highest.
+    #[tactic(auto, unfolding(crate::specs::Spelling::word_of))]
     pub fn word(self, letters: u64) -> Text
         ensures { result ≡ word_of self letters }
     {
         spelled(self, letters, 256, 0, 8)
     }
 
+    #[tactic(auto, unfolding(crate::specs::Spelling::decimal_of))]
     pub fn decimal(self, n: u64) -> Text
         ensures { result ≡ decimal_of self n }
     {

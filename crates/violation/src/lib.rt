@@ -76,6 +76,7 @@ fn own_apart(c: Config, last: &[u64; 16], own: Bank, bank: u8, clock: u64) -> bo
 
 // Does a rule hold for a bank? One function for each command; what a command doesn't have to keep holds.
 
+#[tactic(auto, unfolding(crate::specs::Walk::act_holds))]
 fn act_holds(
     c: Config,
     last: &[u64; 16],
@@ -101,6 +102,7 @@ fn act_holds(
 }
 
 // READ, and WRT but for R10.
+#[tactic(auto, unfolding(crate::specs::Walk::access_holds))]
 fn access_holds(
     c: Config,
     last: &[u64; 16],
@@ -122,6 +124,7 @@ fn access_holds(
     }
 }
 
+#[tactic(auto, unfolding(crate::specs::Walk::wrt_holds))]
 fn wrt_holds(
     c: Config,
     last: &[u64; 16],
@@ -140,6 +143,7 @@ fn wrt_holds(
     access_holds(c, last, clock, own, column, rule, bank)
 }
 
+#[tactic(auto, unfolding(crate::specs::Walk::pre_holds))]
 fn pre_holds(c: Config, last: &[u64; 16], clock: u64, own: Bank, rule: u8, bank: u8) -> bool
     requires { Accepted c × (bank < 4) × Clocked last.now clock }
     ensures { result ≡ pre_holds c last.now clock own rule bank }
@@ -154,6 +158,7 @@ fn pre_holds(c: Config, last: &[u64; 16], clock: u64, own: Bank, rule: u8, bank:
     }
 }
 
+#[tactic(auto, unfolding(crate::specs::Walk::deac_holds))]
 fn deac_holds(c: Config, last: &[u64; 16], clock: u64, rule: u8, bank: u8) -> bool
     requires { (bank < 4) × Clocked last.now clock }
     ensures { result ≡ deac_holds c last.now clock rule bank }
@@ -167,6 +172,7 @@ fn deac_holds(c: Config, last: &[u64; 16], clock: u64, rule: u8, bank: u8) -> bo
 }
 
 // What REFR and MRS have in common.
+#[tactic(auto, unfolding(crate::specs::Walk::rest_holds))]
 fn rest_holds(c: Config, last: &[u64; 16], clock: u64, rule: u8, bank: u8) -> bool
     requires { (bank < 4) × Clocked last.now clock }
     ensures { result ≡ rest_holds c last.now clock rule bank }
@@ -179,6 +185,7 @@ fn rest_holds(c: Config, last: &[u64; 16], clock: u64, rule: u8, bank: u8) -> bo
     }
 }
 
+#[tactic(auto, unfolding(crate::specs::Walk::refr_holds))]
 fn refr_holds(c: Config, last: &[u64; 16], clock: u64, rule: u8, bank: u8) -> bool
     requires { (bank < 4) × Clocked last.now clock }
     ensures { result ≡ refr_holds c last.now clock rule bank }
@@ -189,6 +196,7 @@ fn refr_holds(c: Config, last: &[u64; 16], clock: u64, rule: u8, bank: u8) -> bo
     rest_holds(c, last, clock, rule, bank)
 }
 
+#[tactic(auto, unfolding(crate::specs::Walk::mrs_holds))]
 fn mrs_holds(c: Config, last: &[u64; 16], clock: u64, word: u16, rule: u8, bank: u8) -> bool
     requires { (bank < 4) × Clocked last.now clock }
     ensures { result ≡ mrs_holds c last.now clock word rule bank }
@@ -200,6 +208,7 @@ fn mrs_holds(c: Config, last: &[u64; 16], clock: u64, word: u16, rule: u8, bank:
 }
 
 // Does a rule hold for a bank?
+#[tactic(auto, unfolding(crate::specs::Walk::holds_of))]
 fn holds(c: Config, last: &[u64; 16], clock: u64, command: Command, rule: u8, bank: u8) -> bool
     requires { Accepted c × (bank < 4) × Clocked last.now clock }
     ensures { result ≡ holds_of c last.now clock command rule bank }
@@ -217,6 +226,7 @@ fn holds(c: Config, last: &[u64; 16], clock: u64, command: Command, rule: u8, ba
 }
 
 // The bank that is named for a rule that does not hold for a bank: none for R1 to R3, R10 and R15, which are about no bank, and else that bank.
+#[tactic(auto, unfolding(crate::specs::Walk::named_of))]
 fn named(rule: u8, bank: u8) -> u8
     ensures { result ≡ named_of rule bank }
 {
@@ -231,6 +241,7 @@ fn named(rule: u8, bank: u8) -> u8
 }
 
 // The first rule that a command breaks, and its bank.
+#[tactic(auto, using(device::proofs::Tests::passed, device::proofs::Tests::failed, crate::proofs::Grid::from_bank, crate::proofs::Grid::from_rule, crate::proofs::Grid::asked, crate::proofs::Grid::grid_is, crate::proofs::Steps::no_violation, crate::proofs::Steps::bank_holds, crate::proofs::Steps::bank_broken, crate::proofs::Steps::banks_end, crate::proofs::Steps::rule_begins, crate::proofs::Steps::rules_end))]
 pub fn first(c: Config, last: &[u64; 16], clock: u64, command: Command) -> Violation
     requires { Accepted c × Clocked last.now clock }
     ensures { result ≡ violation_of (requirements c (by_stamps c last.now clock) command) }

@@ -76,6 +76,7 @@ fn tim_reserved(w: u32) -> bool
 }
 
 // Number 1 for the words of the standalone map, and for all four.
+#[tactic(auto, unfolding(crate::specs::Words::reserved_map))]
 pub fn map_reserved(cfg: u32, row: u32) -> bool
     ensures { result ≡ reserved_map cfg row }
 {
@@ -85,6 +86,7 @@ pub fn map_reserved(cfg: u32, row: u32) -> bool
     row_reserved(row)
 }
 
+#[tactic(auto, unfolding(crate::specs::Words::reserved_all))]
 pub fn all_reserved(cfg: u32, row: u32, refr: u32, tim: u32) -> bool
     ensures { result ≡ reserved_all cfg row refr tim }
 {
