@@ -1,0 +1,25 @@
+-- PRE's rules in order: each test taken or left settles one.
+use Rattle.std.proofs.Common.{sym, ◌∙◌}
+use borrow.Author.Tests.{le-leb, lt-leb, not-false, not-true}
+use Rattle.device.proofs.Alike.{in_four}
+use Rattle.ages.proofs.Record.{open_here}
+use Rattle.legality.proofs.Hold.{pre_is}
+use Rattle.legality.proofs.pre_legal.Goals as goal
+
+pub returns-then-not-inside : goal.returns-then-not-inside
+returns-then-not-inside c rows programmed = rw (pre_is, sym c.inside.ensures ∙ c.if-not-inside.true)
+
+pub returns-then-not-settled : goal.returns-then-not-settled
+returns-then-not-settled c rows programmed = rw (pre_is, (sym c.inside.ensures ∙ c.if-not-inside.false), sym c.settled.ensures ∙ c.if-not-settled.true)
+
+pub returns-then-not-opened-b : goal.returns-then-not-opened-b
+returns-then-not-opened-b c rows programmed = rw (pre_is, (sym c.inside.ensures ∙ c.if-not-inside.false), sym c.settled.ensures ∙ c.if-not-settled.false, open_here _ _ _ (in_four c.args.c c.requires _ (sym c.inside.ensures ∙ c.if-not-inside.false)), c.if-not-opened-b.true)
+
+pub returns-then-ages-b : goal.returns-then-ages-b
+returns-then-ages-b c rows programmed = rw (pre_is, (sym c.inside.ensures ∙ c.if-not-inside.false), sym c.settled.ensures ∙ c.if-not-settled.false, open_here _ _ _ (in_four c.args.c c.requires _ (sym c.inside.ensures ∙ c.if-not-inside.false)), c.if-not-opened-b.false, lt-leb _ _ c.if-ages-b.true)
+
+pub returns-then-ages-b-2 : goal.returns-then-ages-b-2
+returns-then-ages-b-2 c rows programmed = rw (pre_is, (sym c.inside.ensures ∙ c.if-not-inside.false), sym c.settled.ensures ∙ c.if-not-settled.false, open_here _ _ _ (in_four c.args.c c.requires _ (sym c.inside.ensures ∙ c.if-not-inside.false)), c.if-not-opened-b.false, le-leb _ _ c.if-ages-b.false, lt-leb _ _ c.if-ages-b-2.true)
+
+pub returns : goal.returns
+returns c rows programmed = rw (pre_is, (sym c.inside.ensures ∙ c.if-not-inside.false), sym c.settled.ensures ∙ c.if-not-settled.false, open_here _ _ _ (in_four c.args.c c.requires _ (sym c.inside.ensures ∙ c.if-not-inside.false)), c.if-not-opened-b.false, le-leb _ _ c.if-ages-b.false, le-leb _ _ c.if-ages-b-2.false)
