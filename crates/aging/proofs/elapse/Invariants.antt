@@ -8,9 +8,7 @@ use Rattle.aging.proofs.Loop.{changed}
 use Rattle.aging.proofs.elapse.Given as goal
 
 abbrev pub invariant-loop-i : goal.invariant-loop-i
-invariant-loop-i l = (l.i ≤ 16) × (length l.initial.all ≡ 16) × (l.initial.i ≡ changed (aged_of false) l.i l.initial.all)
+invariant-loop-i l = (l.i ≤ 16) × (length l.initial.all ≡ 16) × (l.all ≡ changed (aged_of false) l.i l.initial.all)
 
 abbrev pub decreases-loop-i : goal.decreases-loop-i
 decreases-loop-i l = 16 - l.i
-
--- in a turn there is an age at l.i
