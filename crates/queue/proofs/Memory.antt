@@ -58,12 +58,12 @@ served_same m n r a e = after_same r.kind r.address r.halfword m n a e
 
 module _ {ok : ℕ → Type 0} {want : ℕ → ℕ} where
   -- a request that no older one shares a block with can be served first
-  pub serve : {m flat : ℕ → ℕ} {xs : List Request} (r : Request) (ys : List Request) → Free r xs
+  pub serve : (r : Request) {xs : List Request} {m flat : ℕ → ℕ} (ys : List Request) → Free r xs
       → Consistent ok want m (xs ++ r ∷ ys) flat → ReadsRight want m r × Consistent ok want (applied m r) (xs ++ ys) flat
   serve r ys none (then a c) = (a, c)
-  serve {m} r ys (more {r = x} p ps) (then a c) =
+  serve r {m} ys (more {r = x} p ps) (then a c) =
       let d : x.address ≡ r.address → ⊥ = λ e. p (ap block_of e) in
-      let s = serve r ys ps c in (
+      let s = serve r {m = applied m x} ys ps c in (
         λ k. s.0 k ∙ served_other m x r.address (λ e. d (sym e)),
         then (λ k. a k ∙ sym (served_other m r x.address d)) (rw (served_comm m x r d) at s.1),
       )
@@ -76,17 +76,17 @@ module _ {ok : ℕ → Type 0} {want : ℕ → ℕ} where
       serve (get_or l at no_request) (drop (suc at) l) s.free (subst (λ (k : List Request). Consistent ok want m k flat) (servable_split s) c)
 
   -- an accepted request joins at the end, and the flat memory takes it at once; what was wanted of the older ones stays
-  pub arrive : {m flat : ℕ → ℕ} {l : List Request} (want' : ℕ → ℕ) (r : Request) → Each (λ x. want' x.number ≡ want x.number) l
+  pub arrive : (want' : ℕ → ℕ) {l : List Request} {m flat : ℕ → ℕ} (r : Request) → Each (λ x. want' x.number ≡ want x.number) l
       → ReadsRight want' flat r → ok r.address → Consistent ok want m l flat → Consistent ok want' m (l ++ (r ∷ [])) (applied flat r)
-  arrive {m} {flat} want' r none a o (same f) = then (λ k. a k ∙ sym (f r.address o)) (same (λ b p. served_same m flat r b (f b p)))
-  arrive want' r (more p ps) a o (then b c) = then (λ k. p ∙ b k) (arrive want' r ps a o c)
+  arrive want' {m} {flat} r none a o (same f) = then (λ k. a k ∙ sym (f r.address o)) (same (λ b p. served_same m flat r b (f b p)))
+  arrive want' {m} r (more {r = x} p ps) a o (then b c) = then (λ k. p ∙ b k) (arrive want' {m = applied m x} r ps a o c)
 
   -- only the addresses that are ok count
-  pub consistent_memory : {m n flat : ℕ → ℕ} {l : List Request} → Each (λ x. ok x.address) l → ((a : ℕ) → ok a → m a ≡ n a)
+  pub consistent_memory : {l : List Request} {m n flat : ℕ → ℕ} → Each (λ x. ok x.address) l → ((a : ℕ) → ok a → m a ≡ n a)
       → Consistent ok want m l flat → Consistent ok want n l flat
   consistent_memory none e (same f) = same (λ a o. sym (e a o) ∙ f a o)
   consistent_memory {m} {n} (more {r = r} o os) e (then a c) =
-      then (λ k. a k ∙ e r.address o) (consistent_memory os (λ b p. served_same m n r b (e b p)) c)
+      then (λ k. a k ∙ e r.address o) (consistent_memory {m = applied m r} {n = applied n r} os (λ b p. served_same m n r b (e b p)) c)
 
   -- with nothing queued the memories agree
   pub consistent_empty : {m flat : ℕ → ℕ} → Consistent ok want m [] flat → (a : ℕ) → ok a → m a ≡ flat a
