@@ -70,10 +70,10 @@ module _ (b : Bool) (c : Config) (p : Past) (n : Counters) (x : Control) (count 
   unfolding fit_by state_by
   true_fit f =
       simp (
-        true_accepted _ f.accepted,
-        bounded_sound _ _ f.counters,
-        le-leb _ _ f.few,
-        action_sound _ _ _ _ x.action f.action,
+        true_accepted c f.accepted,
+        bounded_sound c.rr n f.counters,
+        le-leb count 8 f.few,
+        action_sound c p.programmed (all_closed (row_at p)) count x.action f.action,
       )
 
   pub sound_facts : sound_by b c p n x count ≡ true → b ≡ true → SoundFacts c p n x count
