@@ -75,10 +75,10 @@ unfolding sdram_after driven_after
 driven-read c d b k x t e = rw (t, e)
 
 -- a WRT that is taken writes it
-pub cells-written : (c : Config) (d : Sdram) (b : Bank) (k : Column) (h : ℕ) (x : Cell) → takes c d (Wrt b k h) ≡ true
+pub cells_written : (c : Config) (d : Sdram) (b : Bank) (k : Column) (h : ℕ) (x : Cell) → takes c d (Wrt b k h) ≡ true
     → open_cell (open_row d.log.past b.0) b k ≡ some x → (sdram_after c d (Wrt b k h)).cells ≡ stored d.cells x h
 unfolding sdram_after cells_after
-cells-written c d b k h x t e = rw (t, e)
+cells_written c d b k h x t e = rw (t, e)
 
 same-cell : (x y : Cell) → same_cell x y ≡ true → x ≡ y
 same-cell x y e =

@@ -298,7 +298,7 @@ module _ {c : Config} {p : Past} {q : Queue} {a : Action} {n : ℕ} {d : Sdram} 
       record {
         servable = s;
         kind = rw (← held) k;
-        least = omega (arith, ok.latency-least);
+        least = omega (arith, ok.latency_least);
         driven =
             rw (
               ← held,

@@ -163,12 +163,12 @@ cycle-sent p k f = older-sent p k refresh_cycle tt f
 
 pub rested : {c : Config} → Accepted c → (p : Past) (k : Command) → starts refresh_cycle k ≡ false → c.rfc ≤ age_of p refresh_cycle
     → c.rfc ≤ age_of (sent_of p k) refresh_cycle
-rested ok p k f h = let e = cycle-sent p k f in omega (arith, ok.rfc-most)
+rested ok p k f h = let e = cycle-sent p k f in omega (arith, ok.rfc_most)
 
 -- The stages of an access.
 
 pub bank-four : {c : Config} → Accepted c → {x : Cell} → Holds c.geometry x → x.bank.0 < 4
-bank-four ok h = omega (arith, h.bank, pow_mono ok.shaped.banks-most)
+bank-four ok h = omega (arith, h.bank, pow_mono ok.shaped.banks_most)
 
 module _ (c : Config) (p : Past) (kind : Kind) (x : Cell) where
   abbrev at : ℕ
@@ -235,10 +235,10 @@ module _ {c : Config} (ok : Accepted c) (p : Past) (programmed : p.programmed �
       if_both (λ next. Advanced c p q (RefreshCycle left) n (performed_of c p (rest next))) (leb (left - 1) 0)
       (λ e. let z = leb-true (left - 1) 0 e in
       rest_only c p (Advanced c p q (RefreshCycle left) n) Idle
-      (quiet-advances Nop Idle refl refl (omega (arith, ok.rfc-most)) (omega arith) (omega arith) (λ o. o)))
+      (quiet-advances Nop Idle refl refl (omega (arith, ok.rfc_most)) (omega arith) (omega arith) (λ o. o)))
       (λ e. let z = leb-false (left - 1) 0 e in
       rest_only c p (Advanced c p q (RefreshCycle left) n) (RefreshCycle (left - 1))
-      (quiet-advances Nop (RefreshCycle (left - 1)) refl refl (omega (arith, ok.rfc-most), z, omega arith) (omega arith) (omega arith) (λ o. o)))
+      (quiet-advances Nop (RefreshCycle (left - 1)) refl refl (omega (arith, ok.rfc_most), z, omega arith) (omega arith) (omega arith) (λ o. o)))
 
   refr-age : age_of (sent_of p Refr) refresh_cycle ≡ 1
   unfolding marks_of
@@ -257,7 +257,7 @@ module _ {c : Config} (ok : Accepted c) (p : Past) (programmed : p.programmed �
         mode = mode-sent p Refr refl mode;
         settled = settled;
         left = omega arith;
-        backlog = falls refl refl (omega (arith, ok.refresh-span, ok.long-enough, ok.ras-least)) (λ o. o) owing;
+        backlog = falls refl refl (omega (arith, ok.refresh_span_lem, ok.long_enough, ok.ras_least)) (λ o. o) owing;
       }
 
   sent-advances : Advanced c p q Refresh n (refreshed (cycle_left (c.rfc - 1)))
@@ -266,9 +266,9 @@ module _ {c : Config} (ok : Accepted c) (p : Past) (programmed : p.programmed �
       let age = refr-age in
       if_both (λ next. Advanced c p q Refresh n (refreshed next)) (leb (c.rfc - 1) 0)
       (λ e. let z = leb-true (c.rfc - 1) 0 e in
-      refreshed-advances Idle (omega arith) (omega (arith, ok.rfc-least)) (omega arith) (λ m. tt))
+      refreshed-advances Idle (omega arith) (omega (arith, ok.rfc_least)) (omega arith) (λ m. tt))
       (λ e. let z = leb-false (c.rfc - 1) 0 e in
-      refreshed-advances (RefreshCycle (c.rfc - 1)) (omega arith, z, omega (arith, ok.rfc-least)) (omega arith) (omega arith) (λ m. tt))
+      refreshed-advances (RefreshCycle (c.rfc - 1)) (omega arith, z, omega (arith, ok.rfc_least)) (omega arith) (omega arith) (λ m. tt))
 
   refresh-advances : c.rfc ≤ age_of p refresh_cycle → all_closed (row_at p) ≡ true → Advanced c p q Refresh n (performed_of c p (refresh_plan c))
   unfolding refresh_plan marks_of
@@ -344,7 +344,7 @@ module _ {c : Config} (ok : Accepted c) (p : Past) (programmed : p.programmed �
           short-new c p k (row_precharge b) four (eq-eqb b b refl),
           (short-falls ok p k (row_cycle b) four refl).by,
           (others-fall ok p k b (λ x. refl)).by,
-          ok.rp-least,
+          ok.rp_least,
         ))
         (omega arith) (λ x. x))
         (λ l.
@@ -369,8 +369,8 @@ module _ {c : Config} (ok : Accepted c) (p : Past) (programmed : p.programmed �
     opened-left p' o new s = rw (left-transfer c p' r.kind x o (eq-eqb x.row.0 x.row.0 refl)) (go r.kind)
       where
         go : (kind : Kind) → transfer_left c p' kind b ≤ c.rcd + c.latency + 1
-        go Kind.Read = omega (arith, ok.rcd-least)
-        go Kind.Write = omega (arith, ok.rcd-least)
+        go Kind.Read = omega (arith, ok.rcd_least)
+        go Kind.Write = omega (arith, ok.rcd_least)
 
     activate-access : row_at p b ≡ none → Advanced c p q (Access i) n (performed_of c p (tries (Act x.bank x.row) (Access i) (Access i)))
     unfolding tries marks_of activate_left
@@ -414,7 +414,7 @@ module _ {c : Config} (ok : Accepted c) (p : Past) (programmed : p.programmed �
           let next : access_left c (sent_of p Nop) r.kind x ≡ transfer_left c (sent_of p Nop) Kind.Read b = left-next t in
           performed_both c p (Advanced c p q (Access i) n) (read_plan c i x)
           (λ l.
-          quiet-advances k (CasLatency i c.latency) refl refl (rested ok p k refl h, omega (arith, ok.latency-least), omega arith) (omega arith) (omega arith) (λ x. x))
+          quiet-advances k (CasLatency i c.latency) refl refl (rested ok p k refl h, omega (arith, ok.latency_least), omega arith) (omega arith) (omega arith) (λ x. x))
           (λ l.
           let w : 1 ≤ short c p (row_to_column b)
           = waits _ (read-ready c p ready x.bank x.column inside.bank inside.column opened) l in
@@ -483,14 +483,14 @@ act-advances ok {p} programmed mode q (RefreshCycle left) s i n bus = cycle-adva
 -- What is left of an action at its choice.
 
 pub refresh-bound : {c : Config} → Accepted c → {p : Past} → Aged p → (q : Queue) → left_of c p q PrechargeAll + 1 ≤ c.refresh
-refresh-bound ok aged q = omega (arith, refresh-least ok aged, ok.refresh-span)
+refresh-bound ok aged q = omega (arith, refresh-least ok aged, ok.refresh_span_lem)
 
 module _ {c : Config} (ok : Accepted c) {p : Past} (aged : Aged p) (b : ℕ) (four : b < 4) where
   transfer-bound : (kind : Kind) → transfer_left c p kind b + 3 ≤ c.access
   unfolding transfer_left
   transfer-bound kind =
-      go kind (short-least ok aged (row_to_column b) four) (short-least ok aged read_to_write tt) ok.access-span
-      ok.ras-least ok.rp-least ok.rc-least ok.rrd-least
+      go kind (short-least ok aged (row_to_column b) four) (short-least ok aged read_to_write tt) ok.access_span_lem
+      ok.ras_least ok.rp_least ok.rc_least ok.rrd_least
     where
       go : (kind : Kind) → short c p (row_to_column b) + 1 ≤ c.rcd → short c p read_to_write + 1 ≤ c.latency + 2
           → c.access ≡ max c.ras c.wr + c.rp + c.rc + c.rrd + c.rcd + c.latency + 2 → 1 ≤ c.ras → 1 ≤ c.rp → 1 ≤ c.rc → 1 ≤ c.rrd
@@ -505,11 +505,11 @@ module _ {c : Config} (ok : Accepted c) {p : Past} (aged : Aged p) (b : ℕ) (fo
   unfolding activate_left
   activate-bound =
       let rp : short c p (row_precharge b) + 1 ≤ c.rp = short-least ok aged (row_precharge b) four in
-      omega (arith, rc_least, others-least ok aged b, ok.access-span)
+      omega (arith, rc_least, others-least ok aged b, ok.access_span_lem)
 
   precharge-bound : precharge_left c p b + 3 ≤ c.access
   unfolding precharge_left
-  precharge-bound = omega (arith, rc_least, others-least ok aged b, bank-least ok aged b four, ok.access-span)
+  precharge-bound = omega (arith, rc_least, others-least ok aged b, bank-least ok aged b four, ok.access_span_lem)
 
 pub access-bound : {c : Config} → Accepted c → {p : Past} → Aged p → (q : Queue) (i : ℕ) → left_of c p q (Access i) + 3 ≤ c.access
 unfolding access_left

@@ -119,7 +119,7 @@ module _ {c : Config} (ok : Accepted c) (p : Past) where
 
   pub deac-falls : refr_held c (sent_of p Deac) + 1 ≤ refresh_held c p
   unfolding refr_held refresh_held marks_of
-  deac-falls = omega (arith, short-new c p Deac any_precharge tt refl, (row-cycle-falls Deac (λ b. refl)).by, ok.rp-least)
+  deac-falls = omega (arith, short-new c p Deac any_precharge tt refl, (row-cycle-falls Deac (λ b. refl)).by, ok.rp_least)
 
   other-falls : (k : Command) (b o : ℕ) → o < 4 → starts (row_to_row o) k ≡ false → Falls (other_held c (sent_of p k) b o) (other_held c p b o)
   unfolding other_held
@@ -152,7 +152,7 @@ module _ {c : Config} (ok : Accepted c) {p : Past} (aged : Aged p) where
     where
       go : (t : Bool) → cond t (bank_held c p b) 0 + 1 ≤ max c.ras c.wr
       go true = bank-least b h
-      go false = omega (arith, ok.ras-least)
+      go false = omega (arith, ok.ras_least)
 
   all-least : all_held c p + 1 ≤ max c.ras c.wr
   unfolding all_held
@@ -174,7 +174,7 @@ module _ {c : Config} (ok : Accepted c) {p : Past} (aged : Aged p) where
   other-least b o h = go (eqb o b)
     where
       go : (t : Bool) → cond t 0 (short c p (row_to_row o)) + 1 ≤ c.rrd
-      go true = ok.rrd-least
+      go true = ok.rrd_least
       go false = short-least ok aged (row_to_row o) h
 
   pub others-least : (b : ℕ) → others_held c p b + 1 ≤ c.rrd

@@ -215,7 +215,7 @@ continued : {c : Config} → Accepted c → {p : Past} {q : Queue} {a : Action} 
     → Timely c p q a n → is_idle a ≡ false → (bus : ℕ)
     → Ends c (tick_of n c.rr) q a (served_of c p (get_of q (under_way a)) a bus)
 continued {c} ok {p} {q} {a} {n} t i bus =
-    let d = act-advances ok t.programmed t.mode q a t.settled i n bus in
+    let d = act-advances ok {p = p} t.programmed t.mode q a t.settled i n bus in
     let k = ticked c.rr (need_of c p q a) n (omega (arith, d.left)) t.bounded t.low t.full in
     timely-acts ok a
     (record {
@@ -251,7 +251,7 @@ module _ {c : Config} (ok : Accepted c) {p : Past} (aged : Aged p) {q : Queue} {
   n = tick_of m c.rr
 
   counted : Ticked c.refresh n
-  counted = (ticked c.rr c.refresh m (omega (arith, ok.refresh-span, ok.rp-least)) (omega (arith, t.bounded)) t.low (λ x. omega (arith, t.full x))).0
+  counted = (ticked c.rr c.refresh m (omega (arith, ok.refresh_span_lem, ok.rp_least)) (omega (arith, t.bounded)) t.low (λ x. omega (arith, t.full x))).0
 
   -- each choice
   refresh-starts : 1 ≤ n.backlog → Starts c p q PrechargeAll n
@@ -287,7 +287,7 @@ module _ {c : Config} (ok : Accepted c) {p : Past} (aged : Aged p) {q : Queue} {
         mode = t.mode;
         settled = t.settled;
         owing = tt;
-        bounded = omega (arith, ok.long-enough);
+        bounded = omega (arith, ok.long_enough);
         low = counted.low;
         full = λ x. absurd (omega arith);
       }
@@ -377,7 +377,7 @@ timely-first ok q programmed mode settled =
       mode = mode;
       settled = settled;
       owing = tt;
-      bounded = omega (arith, ok.long-enough, ok.refresh-span, ok.access-span);
+      bounded = omega (arith, ok.long_enough, ok.refresh_span_lem, ok.access_span_lem);
       low = omega arith;
       full = λ x. absurd (omega arith);
     }
