@@ -9,8 +9,8 @@ use Rattle.violation.proofs.first.Given as goal
 
 abbrev pub invariant-loop-bank : goal.invariant-loop-bank
 invariant-loop-bank l =
-    (l.initial.bank ≡ no_violation) × (l.bank ≤ 4) × (l.found ≤ 16)
-    × (violation_of (from_bank (4 - l.bank) (asked l.c l.last l.clock l.command) l.found l.bank ++ from_rule (16 - l.found) (asked l.c l.last l.clock l.command) (suc l.found))
+    (l.found ≡ no_violation) × (l.bank ≤ 4) × (l.rule ≤ 16)
+    × (violation_of (from_bank (4 - l.bank) (asked l.c l.last l.clock l.command) l.rule l.bank ++ from_rule (16 - l.rule) (asked l.c l.last l.clock l.command) (suc l.rule))
     ≡ violation_of (from_rule 16 (asked l.c l.last l.clock l.command) 1))
 
 abbrev pub decreases-loop-bank : goal.decreases-loop-bank
@@ -18,7 +18,7 @@ decreases-loop-bank l = 4 - l.bank
 
 abbrev pub invariant-search : goal.invariant-search
 invariant-search l =
-    (l.initial.rule ≡ no_violation) × (1 ≤ l.rule) × (l.rule ≤ 17)
+    (l.found ≡ no_violation) × (1 ≤ l.rule) × (l.rule ≤ 17)
     × (violation_of (from_rule (17 - l.rule) (asked l.c l.last l.clock l.command) l.rule) ≡ violation_of (from_rule 16 (asked l.c l.last l.clock l.command) 1))
 
 abbrev pub decreases-search : goal.decreases-search
