@@ -78,6 +78,7 @@ fn is_cycling(programmed: bool, left: u16, rfc: u8) -> bool
 }
 
 // Soundness of the action under way, its part of the test for number 9 (docs/SOUNDNESS.md); `count` requests are queued.
+#[tactic(auto, unfolding(plan::specs::Actions::sound_action))]
 pub fn action_sound(
     config: Config,
     opened: &[bool; 4],

@@ -50,6 +50,7 @@ fn idle_refresh(level: Level, closed: bool) -> bool
 }
 
 // Rules 5 and 6.
+#[tactic(auto, unfolding(crate::specs::Rules::from_rule5))]
 fn from_rule5(level: Level, closed: bool) -> Action
     ensures { result ≡ from_rule5 level closed }
 {
@@ -60,6 +61,7 @@ fn from_rule5(level: Level, closed: bool) -> Action
 }
 
 // Rules 3 to 6.
+#[tactic(auto, unfolding(crate::specs::Rules::from_rule3))]
 fn from_rule3(level: Level, places: &[u32; 24], count: u32, opened: &[bool; 4]) -> Action
     ensures { (rows : List ℕ) → result ≡ from_rule3 level (oldest_of Kind.Write (held_of (queue_of places.now count))) (all_closed (open_rows opened.now rows)) }
 {
@@ -72,6 +74,7 @@ fn from_rule3(level: Level, places: &[u32; 24], count: u32, opened: &[bool; 4]) 
 }
 
 // Rules 1 to 6, from the Must run as of this choice and the backlog's level. The queue is searched only where a rule asks for it.
+#[tactic(auto, unfolding(plan::specs::Choice::rules_of, crate::specs::Rules::from_rule3, crate::specs::Rules::from_rule5))]
 fn choose(run: bool, level: Level, places: &[u32; 24], count: u32, opened: &[bool; 4]) -> Action
     ensures { (rows : List ℕ) → result ≡ rules_of run level (oldest_of Kind.Read (held_of (queue_of places.now count))) (oldest_of Kind.Write (held_of (queue_of places.now count))) (all_closed (open_rows opened.now rows)) }
 {
@@ -85,6 +88,7 @@ fn choose(run: bool, level: Level, places: &[u32; 24], count: u32, opened: &[boo
 }
 
 // Is a Must run on after the slot's choice? Where an action is under way no choice is made.
+#[tactic(auto, unfolding(crate::specs::Rules::must_of))]
 pub fn must_after(action: Action, must: bool, backlog: u8) -> bool
     ensures { result ≡ must_of action must backlog }
 {
@@ -95,6 +99,7 @@ pub fn must_after(action: Action, must: bool, backlog: u8) -> bool
 }
 
 // The action of a slot: the one under way goes on; if there is none, a choice is made. `run` says whether a Must run is on after it.
+#[tactic(auto, unfolding(crate::specs::Rules::action_of))]
 pub fn current(
     action: Action,
     run: bool,

@@ -17,6 +17,7 @@ fn data_word(kind: Kind, halfword: u16) -> u32
 }
 
 // The kind that such a number has.
+#[tactic(auto, unfolding(queue::specs::Places::kind_in))]
 fn kind_in(word: u32) -> Kind
     ensures { result ≡ kind_in word }
 {
@@ -39,6 +40,7 @@ fn blank() -> Request
 }
 
 // The empty queue: all places are blank.
+#[tactic(auto, unfolding(queue::specs::Places::empty_of))]
 pub fn empty() -> Queue
     ensures { result ≡ empty_of }
 {
@@ -49,6 +51,7 @@ pub fn empty() -> Queue
 }
 
 // How many requests are queued: the count, 8 at most, since a record may hold more.
+#[tactic(auto, unfolding(queue::specs::Places::held_count))]
 pub fn held(count: u32) -> u32
     ensures { result ≡ held_count count }
 {
@@ -59,6 +62,7 @@ pub fn held(count: u32) -> u32
 }
 
 // The kind of the request at a place.
+#[tactic(auto, unfolding(queue::specs::Places::request_in))]
 pub fn kind_at(places: &[u32; 24], at: usize) -> Kind
     requires { at < 8 }
     ensures { result ≡ (request_in places.now at).kind }
@@ -67,6 +71,7 @@ pub fn kind_at(places: &[u32; 24], at: usize) -> Kind
 }
 
 // Its address.
+#[tactic(auto, unfolding(queue::specs::Places::request_in))]
 pub fn address_at(places: &[u32; 24], at: usize) -> u32
     requires { at < 8 }
     ensures { result ≡ (request_in places.now at).address }
@@ -75,6 +80,7 @@ pub fn address_at(places: &[u32; 24], at: usize) -> u32
 }
 
 // The request at a place, the blank one where there is no such place.
+#[tactic(auto, unfolding(queue::specs::Places::request_at, queue::specs::Places::request_in))]
 pub fn request_at(places: &[u32; 24], at: u16) -> Request
     ensures { result ≡ request_at places.now at }
 {
@@ -91,6 +97,7 @@ pub fn request_at(places: &[u32; 24], at: u16) -> Request
 }
 
 // The request becomes the youngest; a full queue stays as it was. It gives the count after it.
+#[tactic(auto, unfolding(queue::specs::Places::accept_of, queue::specs::Places::stored_of))]
 pub fn accept(places: &mut [u32; 24], count: u32, request: Request) -> u32
     ensures { queue_of places.new result ≡ accept_of (queue_of places.old count) request }
 {
@@ -106,6 +113,7 @@ pub fn accept(places: &mut [u32; 24], count: u32, request: Request) -> u32
 }
 
 // The younger requests than the one at a place move up to it, and the last place becomes blank.
+#[tactic(auto, using(crate::proofs::Shifting::shifting_turn, crate::proofs::Shifting::shifting_end), unfolding(queue::specs::Places::shifted_of))]
 fn shift(places: &mut [u32; 24], at: u16)
     ensures { places.new ≡ shifted_of places.old at }
 {
@@ -122,6 +130,7 @@ fn shift(places: &mut [u32; 24], at: u16)
 }
 
 // The request at a place leaves. It gives the count after it.
+#[tactic(auto, unfolding(queue::specs::Places::remove_of))]
 pub fn remove(places: &mut [u32; 24], count: u32, at: u16) -> u32
     ensures { queue_of places.new result ≡ remove_of (queue_of places.old count) at }
 {

@@ -23,6 +23,7 @@ fn is_kind(a: Kind, b: Kind) -> bool
 }
 
 // Does one of the first `end` places have the block `wanted`?
+#[tactic(auto, using(queue::proofs::Array::request_in_lem, queue::proofs::Walks::shared_step, queue::proofs::Walks::shared_end))]
 fn shared(places: &[u32; 24], end: usize, wanted: u32) -> bool
     requires { end ≤ 8 }
     ensures { result ≡ shared_by wanted (take end (requests_in places.now)) }
@@ -38,6 +39,7 @@ fn shared(places: &[u32; 24], end: usize, wanted: u32) -> bool
 }
 
 // Is the request at a place an unblocked one of this kind, where it is one of those queued?
+#[tactic(auto, using(queue::proofs::Array::request_in_lem, queue::proofs::Walks::below_held, queue::proofs::Walks::length_held), unfolding(queue::specs::Oldest::ready_of, queue::specs::Oldest::blocked_of))]
 fn ready(places: &[u32; 24], kind: Kind, at: usize) -> bool
     requires { at < 8 }
     ensures { (count : ℕ) → at < count → result ≡ ready_of kind (held_of (queue_of places.now count)) at }
@@ -52,6 +54,7 @@ fn ready(places: &[u32; 24], kind: Kind, at: usize) -> bool
 }
 
 // The place of the oldest unblocked request of a kind, of `count` queued (document 01, rules 2 and 4).
+#[tactic(auto, using(queue::proofs::Walks::queued, queue::proofs::Walks::length_held, queue::proofs::Walks::first_step, queue::proofs::Walks::first_end), unfolding(queue::specs::Oldest::oldest_of))]
 pub fn oldest(places: &[u32; 24], count: u32, kind: Kind) -> Found
     ensures { result ≡ oldest_of kind (held_of (queue_of places.now count)) }
 {
