@@ -17,6 +17,7 @@ use refresh::Counters;
 const LAST: u32 = 4294967295;
 
 // Soundness of all but the configuration.
+#[tactic(auto, unfolding(crate::specs::Sound::state_by))]
 fn state_sound(
     config: Config,
     opened: &[bool; 4],
@@ -38,6 +39,7 @@ fn state_sound(
 
 // What every call tests first: 9 for an unsound record (docs/SOUNDNESS.md), then 8. The calls test the configuration in their own bodies, where the compiler
 // can leave the test out of a program whose configuration is a constant.
+#[tactic(auto, using(crate::proofs::Laws::number_blank, crate::proofs::Laws::number_parts))]
 pub fn record_number(
     configured: bool,
     config_accepted: bool,
@@ -64,6 +66,7 @@ pub fn record_number(
 }
 
 // 6 for a full queue, then 7 where the last number has been given.
+#[tactic(auto, unfolding(crate::specs::Numbers::room_number_of))]
 fn room_number(count: u32, accepted: u32) -> u8
     ensures { result ≡ room_number_of count accepted }
 {
@@ -77,6 +80,7 @@ fn room_number(count: u32, accepted: u32) -> u8
 }
 
 // What a request tests: 9 and 8, then 4 and 5, then 6 and 7.
+#[tactic(auto, using(crate::proofs::Laws::record_facts), unfolding(crate::specs::Numbers::request_number_by))]
 pub fn request_number(
     configured: bool,
     config_accepted: bool,

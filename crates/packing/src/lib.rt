@@ -18,6 +18,7 @@ use command::Command;
 use plan::Report;
 
 // A word of its four fields.
+#[tactic(auto, unfolding(crate::specs::Packing::word_of))]
 fn word(kind: u8, bank: u8, low: u16, high: u32) -> u64
     ensures { result ≡ word_of kind bank low high }
 {
@@ -25,6 +26,7 @@ fn word(kind: u8, bank: u8, low: u16, high: u32) -> u64
 }
 
 // The word of a command.
+#[tactic(auto, unfolding(crate::specs::Packing::command_word))]
 pub fn pack_command(command: Command) -> u64
     ensures { result ≡ command_word command }
 {
@@ -41,6 +43,7 @@ pub fn pack_command(command: Command) -> u64
 }
 
 // The command that a word has by its kind, NOP for a kind that no command has. `packs_command` says whether the word is that command's.
+#[tactic(auto, unfolding(crate::specs::Packing::command_in))]
 pub fn unpack_command(word: u64) -> Command
     ensures { result ≡ command_in word }
 {
@@ -60,6 +63,7 @@ pub fn unpack_command(word: u64) -> Command
 }
 
 // The words of a kind's commands lie below this.
+#[tactic(auto, unfolding(crate::specs::Limits::limit_of))]
 fn limit(kind: u64) -> u64
     ensures { result ≡ limit_of kind }
 {
@@ -77,6 +81,7 @@ fn limit(kind: u64) -> u64
 }
 
 // Is the word a command's?
+#[tactic(auto, using(device::proofs::Tests::cond_same, crate::proofs::Limits::packs_is))]
 pub fn packs_command(word: u64) -> bool
     ensures { result ≡ packs_command word }
 {
@@ -92,6 +97,7 @@ pub fn packs_command(word: u64) -> bool
 }
 
 // The word of a report.
+#[tactic(auto, unfolding(crate::specs::Packing::report_word))]
 pub fn pack_report(report: Report) -> u64
     ensures { result ≡ report_word report }
 {
@@ -103,6 +109,7 @@ pub fn pack_report(report: Report) -> u64
 }
 
 // The report that a word has by its kind. `packs_report` says whether the word is that report's.
+#[tactic(auto, unfolding(crate::specs::Packing::report_in))]
 pub fn unpack_report(word: u64) -> Report
     ensures { result ≡ report_in word }
 {
@@ -116,6 +123,7 @@ pub fn unpack_report(word: u64) -> Report
 }
 
 // Is the word a report's?
+#[tactic(auto, unfolding(crate::specs::Packing::packs_report))]
 pub fn packs_report(word: u64) -> bool
     ensures { result ≡ packs_report word }
 {

@@ -44,6 +44,7 @@ pub struct Carried {
 }
 
 // The counters, after a REFR that was owed if one was sent.
+#[tactic(auto, unfolding(plan::specs::Plan::counters_after))]
 pub fn counters_after(n: Counters, refreshes: bool) -> Counters
     ensures { result ≡ counters_after n refreshes }
 {
@@ -54,6 +55,7 @@ pub fn counters_after(n: Counters, refreshes: bool) -> Counters
 }
 
 // A command after which nothing but the next action follows.
+#[tactic(auto, unfolding(crate::specs::Serve::carried_with, plan::specs::Plan::quietly))]
 fn quiet(command: Command, action: Action) -> Carried
     ensures { result ≡ carried_with command (quietly action) }
 {
@@ -67,6 +69,7 @@ fn quiet(command: Command, action: Action) -> Carried
 }
 
 // A NOP.
+#[tactic(auto, unfolding(crate::specs::Serve::rest_of))]
 fn rest(action: Action) -> Carried
     ensures { result ≡ rest_of action }
 {
@@ -74,6 +77,7 @@ fn rest(action: Action) -> Carried
 }
 
 // The pause has so many slots left, this one included.
+#[tactic(auto, unfolding(plan::specs::Plan::after_pause))]
 fn after_pause(n: u16) -> Action
     ensures { result ≡ after_pause n }
 {
@@ -84,6 +88,7 @@ fn after_pause(n: u16) -> Action
 }
 
 // The initialisation has so many REFR left, this one included.
+#[tactic(auto, unfolding(plan::specs::Plan::after_init_refresh))]
 fn after_init_refresh(n: u16) -> Action
     ensures { result ≡ after_init_refresh n }
 {
@@ -94,6 +99,7 @@ fn after_init_refresh(n: u16) -> Action
 }
 
 // What is left of a refresh after the first of so many slots.
+#[tactic(auto, unfolding(plan::specs::Plan::cycle_left))]
 fn refresh_cycle(slots: u16) -> Action
     ensures { result ≡ cycle_left (slots - 1) }
 {
@@ -104,6 +110,7 @@ fn refresh_cycle(slots: u16) -> Action
 }
 
 // The slot of a read's halfword.
+#[tactic(auto, unfolding(crate::specs::Serve::taken_of, crate::specs::Serve::carried_with, plan::specs::Plan::taken_plan))]
 fn taken(r: Request, bus: u16) -> Carried
     ensures { result ≡ taken_of r bus }
 {
@@ -117,6 +124,7 @@ fn taken(r: Request, bus: u16) -> Carried
 }
 
 // A slot after a READ for the request at place i.
+#[tactic(auto, unfolding(crate::specs::Serve::latency_of))]
 fn latency(i: u16, left: u16, places: &[u32; 24], bus: u16) -> Carried
     ensures { result ≡ latency_of i left (request_at places.now i) bus }
 {
@@ -127,6 +135,7 @@ fn latency(i: u16, left: u16, places: &[u32; 24], bus: u16) -> Carried
 }
 
 // The READ for the request at place i with this cell.
+#[tactic(auto, using(crate::proofs::Laws::sent, crate::proofs::Laws::refused), unfolding(plan::specs::Plan::read_plan, plan::specs::Plan::tries, aging::specs::Noted::noted_of, aging::specs::Noted::noted_ages, aging::specs::Noted::noted_open, aging::specs::Noted::noted_rows, aging::specs::Noted::noted_mode))]
 fn read(c: Config, ages: &mut [u8; 16], opened: &[bool; 4], i: u16, cell: Cell) -> Carried
     requires { Shaped c.geometry }
     ensures { ConductedBy c ages.old opened.now ages.new opened.now (read_plan c i cell) result }
@@ -145,6 +154,7 @@ fn read(c: Config, ages: &mut [u8; 16], opened: &[bool; 4], i: u16, cell: Cell) 
 
 // The WRT for the request at place i with this cell. Its number and halfword are read only where they are sent: held from the start of an access, they cost in
 // each of its slots.
+#[tactic(auto, using(legality::proofs::Hold::wrt_any, crate::proofs::Laws::sent, crate::proofs::Laws::refused), unfolding(plan::specs::Plan::write_plan, crate::specs::Serve::carried_with, aging::specs::Noted::noted_of, aging::specs::Noted::noted_ages, aging::specs::Noted::noted_open, aging::specs::Noted::noted_rows, aging::specs::Noted::noted_mode))]
 fn write(
     c: Config,
     ages: &mut [u8; 16],
@@ -173,6 +183,7 @@ fn write(
 }
 
 // The READ or the WRT.
+#[tactic(auto, unfolding(plan::specs::Plan::transfer_plan, plan::specs::Plan::write_plan))]
 fn transfer(
     c: Config,
     ages: &mut [u8; 16],
@@ -192,6 +203,7 @@ fn transfer(
 }
 
 // The PRE for the request at place i.
+#[tactic(auto, using(crate::proofs::Laws::sent, crate::proofs::Laws::refused), unfolding(plan::specs::Plan::tries, aging::specs::Noted::noted_of, aging::specs::Noted::noted_ages, aging::specs::Noted::noted_open, aging::specs::Noted::noted_rows, aging::specs::Noted::noted_mode))]
 fn precharge(c: Config, ages: &mut [u8; 16], opened: &mut [bool; 4], i: u16, bank: Bank) -> Carried
     requires { Shaped c.geometry }
     ensures { ConductedBy c ages.old opened.old ages.new opened.new (tries (Pre bank) (Access i) (Access i)) result }
@@ -204,6 +216,7 @@ fn precharge(c: Config, ages: &mut [u8; 16], opened: &mut [bool; 4], i: u16, ban
 }
 
 // The ACT for the request at place i.
+#[tactic(auto, using(crate::proofs::Laws::sent, crate::proofs::Laws::refused), unfolding(plan::specs::Plan::tries, aging::specs::Noted::noted_of, aging::specs::Noted::noted_ages, aging::specs::Noted::noted_open, aging::specs::Noted::noted_rows, aging::specs::Noted::noted_mode))]
 fn activate(
     c: Config,
     ages: &mut [u8; 16],
@@ -225,6 +238,7 @@ fn activate(
 }
 
 // The access's next command: PRE, ACT, or READ or WRT.
+#[tactic(auto, unfolding(plan::specs::Plan::access_plan, ages::specs::Ages::open_rows))]
 fn access_to(
     c: Config,
     ages: &mut [u8; 16],
@@ -251,6 +265,7 @@ fn access_to(
 }
 
 // The access of the request at place i: to the cell of its address.
+#[tactic(auto, unfolding(plan::specs::Plan::plan_of))]
 fn access(
     c: Config,
     ages: &mut [u8; 16],
@@ -270,6 +285,7 @@ fn access(
 }
 
 // DEAC, and then `next`; until it is legal, `stays`.
+#[tactic(auto, using(crate::proofs::Laws::sent, crate::proofs::Laws::refused), unfolding(plan::specs::Plan::tries, aging::specs::Noted::noted_of, aging::specs::Noted::noted_ages, aging::specs::Noted::noted_open, aging::specs::Noted::noted_rows, aging::specs::Noted::noted_mode))]
 fn precharge_all(
     c: Config,
     ages: &mut [u8; 16],
@@ -287,6 +303,7 @@ fn precharge_all(
 }
 
 // One of the initialisation's REFRs, of which so many are left.
+#[tactic(auto, using(crate::proofs::Laws::sent, crate::proofs::Laws::refused), unfolding(plan::specs::Plan::tries, aging::specs::Noted::noted_of, aging::specs::Noted::noted_ages, aging::specs::Noted::noted_open, aging::specs::Noted::noted_rows, aging::specs::Noted::noted_mode))]
 fn init_refresh(c: Config, ages: &mut [u8; 16], opened: &[bool; 4], n: u16) -> Carried
     ensures { ConductedBy c ages.old opened.now ages.new opened.now (tries Refr (InitRefresh n) (after_init_refresh n)) result }
 {
@@ -298,6 +315,7 @@ fn init_refresh(c: Config, ages: &mut [u8; 16], opened: &[bool; 4], n: u16) -> C
 }
 
 // The REFR of a refresh.
+#[tactic(auto, using(crate::proofs::Laws::sent, crate::proofs::Laws::refused), unfolding(plan::specs::Plan::refresh_plan, crate::specs::Serve::carried_with, aging::specs::Noted::noted_of, aging::specs::Noted::noted_ages, aging::specs::Noted::noted_open, aging::specs::Noted::noted_rows, aging::specs::Noted::noted_mode))]
 fn refresh_slot(c: Config, ages: &mut [u8; 16], opened: &[bool; 4]) -> Carried
     ensures { ConductedBy c ages.old opened.now ages.new opened.now (refresh_plan c) result }
 {
@@ -315,6 +333,7 @@ fn refresh_slot(c: Config, ages: &mut [u8; 16], opened: &[bool; 4]) -> Carried
 }
 
 // The MRS of the initialisation.
+#[tactic(auto, using(crate::proofs::Laws::sent, crate::proofs::Laws::refused), unfolding(plan::specs::Plan::tries, aging::specs::Noted::noted_of, aging::specs::Noted::noted_ages, aging::specs::Noted::noted_open, aging::specs::Noted::noted_rows, aging::specs::Noted::noted_mode))]
 fn mode_slot(c: Config, ages: &mut [u8; 16], opened: &[bool; 4], programmed: &mut bool) -> Carried
     ensures { (rows : List ℕ) → Conducted c (past_of ages.old opened.now rows programmed.old) (past_of ages.new opened.now rows programmed.new) (tries (Mrs (mode_word c)) InitMode InitSettle) result }
 {
@@ -327,6 +346,7 @@ fn mode_slot(c: Config, ages: &mut [u8; 16], opened: &[bool; 4], programmed: &mu
 }
 
 // The slot of an action; `places` has its request, and `bus` is the halfword that the bus carries.
+#[tactic(auto, using(crate::proofs::Laws::rested, crate::proofs::Laws::awaited), unfolding(plan::specs::Plan::plan_of))]
 pub fn serve(
     c: Config,
     ages: &mut [u8; 16],

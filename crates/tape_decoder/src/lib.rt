@@ -19,6 +19,7 @@ pub struct Found {
 }
 
 // How many bytes follow a kind.
+#[tactic(auto, using(crate::proofs::Steps::no_body), unfolding(tape::specs::Reading::body_length))]
 fn body_length(kind: u8) -> usize
     ensures { result ≡ body_length kind }
 {
@@ -69,6 +70,7 @@ fn sent(command: Command, at: usize) -> Found
 }
 
 // Is a run after another of so many NOPs, or after none (0), refused?
+#[tactic(auto, unfolding(tape::specs::Reading::wrong_run))]
 pub fn wrong_run(before: u16, count: u16) -> bool
     ensures { result ≡ wrong_run before count }
 {
@@ -82,6 +84,7 @@ pub fn wrong_run(before: u16, count: u16) -> bool
 }
 
 // A run at a place, after another of so many NOPs, or after none.
+#[tactic(auto, unfolding(crate::specs::Shapes::run_step))]
 fn run_at(at: usize, before: u16, count: u16) -> Found
     requires { at + 3 < 18446744073709551616 }
     ensures { step_in result ≡ run_step at before count }
@@ -97,6 +100,7 @@ fn run_at(at: usize, before: u16, count: u16) -> Found
 }
 
 // A record of a known kind that the tape holds whole.
+#[tactic(auto, using(crate::proofs::Steps::bank_body, crate::proofs::Steps::low_body, crate::proofs::Steps::rest_at_lem, crate::proofs::Steps::run_here, crate::proofs::Steps::command_here), unfolding(tape::specs::Reading::body_length, tape::specs::Reading::command_of))]
 fn record_at(tape: &[u8], at: usize, before: u16, kind: u8) -> Found
     requires { Whole tape.now at kind }
     ensures { step_in result ≡ step_of tape.now at before }
@@ -131,6 +135,7 @@ fn record_at(tape: &[u8], at: usize, before: u16, kind: u8) -> Found
 }
 
 // The record at a place of a tape, after a run of so many NOPs (0: after no run).
+#[tactic(auto, using(crate::proofs::Steps::end_here, crate::proofs::Steps::refused_kind, crate::proofs::Steps::refused_cut))]
 pub fn read_at(tape: &[u8], at: usize, before: u16) -> Found
     ensures { step_in result ≡ step_of tape.now at before }
 {

@@ -7,6 +7,7 @@ ghost use Rattle.packing.specs.Packing.{command_in, packs_command};
 ghost use Rattle.tape.specs.Writing.{pair_of, run_bytes, command_bytes, slot_piece};
 
 // The bytes of a run's record.
+#[tactic(auto, unfolding(tape::specs::Writing::run_bytes))]
 pub fn run_length(run: u16) -> usize
     ensures { result ≡ length (run_bytes run) }
 {
@@ -17,6 +18,7 @@ pub fn run_length(run: u16) -> usize
 }
 
 // The bytes of a command's record.
+#[tactic(auto, using(device::proofs::Tests::if_both), unfolding(packing::specs::Packing::command_in, tape::specs::Writing::command_bytes, tape::specs::Writing::run_bytes))]
 fn command_length(word: u64) -> usize
     ensures { result ≡ length (command_bytes (command_in word)) }
 {
@@ -32,6 +34,7 @@ fn command_length(word: u64) -> usize
 }
 
 // The bytes of the records that a slot ends, after so many NOPs that wait. The word 0 is NOP.
+#[tactic(auto, using(crate::proofs::Slots::is_nop_lem, crate::proofs::Slots::no_nop, crate::proofs::Slots::joins, crate::proofs::Slots::begins, crate::proofs::Slots::ends, crate::proofs::Slots::some_run, crate::proofs::Slots::few_bytes, crate::proofs::Slots::short_run))]
 pub fn slot_length(pending: u16, word: u64) -> usize
     requires { packs_command word ≡ true }
     ensures { result ≡ length (slot_piece pending (command_in word)).bytes }
@@ -46,6 +49,7 @@ pub fn slot_length(pending: u16, word: u64) -> usize
 }
 
 // How many NOPs wait after a slot.
+#[tactic(auto, using(crate::proofs::Slots::is_nop_lem, crate::proofs::Slots::no_nop, crate::proofs::Slots::joins, crate::proofs::Slots::begins, crate::proofs::Slots::ends))]
 pub fn pending_after(pending: u16, word: u64) -> u16
     requires { packs_command word ≡ true }
     ensures { result ≡ (slot_piece pending (command_in word)).pending }
@@ -69,6 +73,7 @@ fn put_pair(tape: &mut [u8], at: usize, n: u16) -> usize
     at + 2
 }
 
+#[tactic(auto, using(crate::proofs::Slots::no_run, crate::proofs::Slots::some_run))]
 pub fn put_run(tape: &mut [u8], at: usize, run: u16) -> usize
     requires { at + length (run_bytes run) ≤ length tape.old }
     ensures { (result ≡ at + length (run_bytes run)) × (tape.new ≡ sets tape.old at (run_bytes run)) }
@@ -81,6 +86,7 @@ pub fn put_run(tape: &mut [u8], at: usize, run: u16) -> usize
 }
 
 // The record of a command that is not NOP.
+#[tactic(auto, using(crate::proofs::Slots::some_bytes, crate::proofs::Slots::mode_bytes, crate::proofs::Slots::bare_bytes, crate::proofs::Slots::bank_bytes, crate::proofs::Slots::place_bytes, crate::proofs::Slots::write_bytes, crate::proofs::Slots::four_bytes, crate::proofs::Slots::two_bytes, crate::proofs::Stores::write_stores))]
 fn put_command(tape: &mut [u8], at: usize, word: u64) -> usize
     requires { (packs_command word ≡ true) × (word ≡ 0 → ⊥) × (at + length (command_bytes (command_in word)) ≤ length tape.old) }
     ensures { (result ≡ at + length (command_bytes (command_in word))) × (tape.new ≡ sets tape.old at (command_bytes (command_in word))) }
@@ -106,6 +112,7 @@ fn put_command(tape: &mut [u8], at: usize, word: u64) -> usize
 }
 
 // The records that a slot ends.
+#[tactic(auto, using(crate::proofs::Slots::is_nop_lem, crate::proofs::Slots::no_nop, crate::proofs::Slots::joins, crate::proofs::Slots::begins, crate::proofs::Slots::ends, crate::proofs::Stores::sets_append))]
 pub fn put_slot(tape: &mut [u8], at: usize, pending: u16, word: u64) -> usize
     requires { (packs_command word ≡ true) × (at + length (slot_piece pending (command_in word)).bytes ≤ length tape.old) }
     ensures { (result ≡ at + length (slot_piece pending (command_in word)).bytes) × (tape.new ≡ sets tape.old at (slot_piece pending (command_in word)).bytes) }
