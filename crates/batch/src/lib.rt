@@ -23,6 +23,7 @@ pub struct Ended {
 }
 
 // So many slots; `bus` has the halfword that the bus carries in each.
+#[tactic(auto, using(crate::proofs::Loop::onwards, crate::proofs::Loop::onwards_all, crate::proofs::Loop::onwards_next, crate::proofs::Loop::onwards_end, crate::proofs::Loop::stepped_lengths))]
 pub fn run(
     slots: usize,
     c: Config,

@@ -17,7 +17,6 @@ pub struct Reader<'a> {
 }
 
 // A reader at the beginning of a tape.
-#[tactic(auto, unfolding(crate::proofs::new::Code::routine))]
 pub fn new<'a>(tape: &'a [u8]) -> Reader<'a>
     ensures { (result.tape ≡ tape.entry) × (result.at ≡ 0) × (result.before ≡ 0) }
 {
@@ -29,7 +28,6 @@ pub fn new<'a>(tape: &'a [u8]) -> Reader<'a>
 }
 
 // The next record.
-#[tactic(auto, unfolding(crate::proofs::next::Code::routine))]
 pub fn next<'s, 'a>(r: &'s mut Reader<'a>) -> Item
     ensures { (r.new.tape ≡ r.old.tape) × (step_after result r.new ≡ step_of r.old.tape.now r.old.at r.old.before) }
 {

@@ -27,6 +27,7 @@ pub fn number(why: Refusal) -> u8
 }
 
 // How many slots an item stands for.
+#[tactic(auto, using(std::proofs::Common::rules))]
 pub fn slots(item: Item) -> u64
     ensures { result ≡ length (slots_of (answer_of item)) }
 {
@@ -51,6 +52,7 @@ fn goes_on(item: Item) -> bool
 }
 
 // A tape with so many slots before an item at which it ends.
+#[tactic(auto, using(std::proofs::Common::rules), unfolding(crate::specs::Scan::stopped_of))]
 fn stopped(slots: u64, item: Item) -> Scanned
     ensures { result ≡ stopped_of slots (answer_of item) }
 {
@@ -79,6 +81,7 @@ fn stopped(slots: u64, item: Item) -> Scanned
 }
 
 // Reads a tape to its end, or to its first refused record.
+#[tactic(auto, using(std::proofs::Common::length, std::proofs::Common::sym, std::proofs::Common::refl, std::proofs::Common::ap, std::proofs::Common::arith, std::proofs::Common::rules, crate::proofs::Scans::rest, crate::proofs::Scans::onward, crate::proofs::Scans::counted, crate::proofs::Scans::over, crate::proofs::Scans::whole))]
 pub fn scan(tape: &[u8]) -> Scanned
     ensures { result ≡ scanned_of tape.now }
 {

@@ -42,6 +42,7 @@ struct Measured {
 }
 
 // The first pass over a row: its words, and the length of its records.
+#[tactic(auto, using(tape_encoder::proofs::Slots::short_run, crate::proofs::Passes::onward, crate::proofs::Passes::onward_all, crate::proofs::Passes::onward_next, crate::proofs::Passes::onward_stop, crate::proofs::Passes::onward_end, crate::proofs::Passes::slot_grows))]
 fn measure(pending: u16, words: &[u64]) -> Measured
     ensures { result ≡ measured_of pending words.now }
 {
@@ -70,6 +71,7 @@ fn measure(pending: u16, words: &[u64]) -> Measured
 }
 
 // The second pass over a row: its records, from the first place on.
+#[tactic(auto, using(crate::proofs::Passes::stored, crate::proofs::Passes::bytes_next, crate::proofs::Passes::packs_next, crate::proofs::Passes::stored_next), unfolding(crate::proofs::Passes::stored, tape::specs::Writing::piece_of))]
 fn fill(pending: u16, words: &[u64], tape: &mut [u8])
     requires { (all_pack words.now ≡ true) × (length (piece_of pending (slots_in words.now)).bytes ≤ length tape.old) }
     ensures { tape.new ≡ sets tape.old 0 (piece_of pending (slots_in words.now)).bytes }
@@ -86,6 +88,7 @@ fn fill(pending: u16, words: &[u64], tape: &mut [u8])
 }
 
 // Goes on with a tape: writes the records of the slots of a row, after so many NOPs that wait: 0 at first, then what the call before answered.
+#[tactic(auto, using(crate::proofs::Passes::measured_all, crate::proofs::Passes::measured_not, crate::proofs::Outcomes::extended_20, crate::proofs::Outcomes::extended_14, crate::proofs::Outcomes::extended_0))]
 pub fn extend(pending: u16, words: &[u64], tape: &mut [u8]) -> Extended
     ensures { extending_in result tape.new ≡ extended_of pending words.now tape.old }
 {
@@ -113,6 +116,7 @@ pub fn extend(pending: u16, words: &[u64], tape: &mut [u8]) -> Extended
 }
 
 // Ends a tape: as `extend`, and the NOPs that wait at the end get their record too.
+#[tactic(auto, using(tape_encoder::proofs::Slots::short_run, crate::proofs::Passes::measured_all, crate::proofs::Passes::measured_not, crate::proofs::Passes::piece_short, crate::proofs::Outcomes::written_20, crate::proofs::Outcomes::written_14, crate::proofs::Outcomes::written_0))]
 pub fn finish(pending: u16, words: &[u64], tape: &mut [u8]) -> Written
     ensures { outcome_in result tape.new ≡ written_of pending words.now tape.old }
 {

@@ -32,6 +32,7 @@ pub struct Turned {
 }
 
 // The slot's counters: the interval falls in a service slot.
+#[tactic(auto, unfolding(plan::specs::Slot::ticked_of))]
 fn ticked(c: Config, n: Counters, action: Action) -> Counters
     ensures { result ≡ ticked_of c n action }
 {
@@ -42,6 +43,7 @@ fn ticked(c: Config, n: Counters, action: Action) -> Counters
 }
 
 // The request of an action may leave the queue. It gives the count after it.
+#[tactic(auto, unfolding(plan::specs::Plan::queue_after))]
 fn queue_after(places: &mut [u32; 24], count: u32, action: Action, leaves: bool) -> u32
     ensures { queue_of places.new result ≡ queue_after (queue_of places.old count) (under_way action) leaves }
 {
@@ -52,6 +54,7 @@ fn queue_after(places: &mut [u32; 24], count: u32, action: Action, leaves: bool)
 }
 
 // One slot, with the action under way when it begins; `must` says whether a Must run is on, and `bus` is the halfword that the bus carries.
+#[tactic(auto, using(crate::proofs::Laws::step_is), unfolding(aging::specs::Noted::elapsed_of))]
 pub fn step(
     c: Config,
     ages: &mut [u8; 16],
@@ -113,6 +116,7 @@ fn refused(count: u32, n: Counters, action: Action, must: bool) -> Turned
 
 // One slot where the number is 0; any other number refuses it: a NOP that reports nothing, and nothing changes. Both return to one place in
 // `Machine::slot`, which builds the machine.
+#[tactic(auto, unfolding(crate::specs::Parts::turned_of, packing::specs::Packing::word_of, packing::specs::Packing::command_word, packing::specs::Packing::report_word))]
 pub fn turn(
     number: u8,
     c: Config,

@@ -9,10 +9,10 @@ use Rattle.service.proofs.init_refresh.Goals as goal
 pub returns-then-refr_legal : goal.returns-then-refr_legal
 unfolding tries noted_of noted_ages noted_open noted_rows noted_mode
 returns-then-refr_legal c rows programmed =
-    sent (sym (c.refr_legal.ensures rows programmed) ∙ c.if-refr_legal.taken)
+    sent (sym (c.refr_legal.ensures rows programmed) ∙ c.if-refr_legal.true)
     (rw (← c.after_init_refresh.ensures) c.quiet.ensures)
     (rw c.note_refr.ensures)
 
 pub returns : goal.returns
 unfolding tries
-returns c rows programmed = refused (sym (c.refr_legal.ensures rows programmed) ∙ c.if-refr_legal.left) c.rest.ensures
+returns c rows programmed = refused (sym (c.refr_legal.ensures rows programmed) ∙ c.if-refr_legal.false) c.rest.ensures
