@@ -38,6 +38,7 @@ fn said(number: u8) -> Verdict
 }
 
 // Takes records as long as all is legal.
+#[tactic(auto, using(crate::proofs::Along::left, crate::proofs::Along::clocked, crate::proofs::Along::ready, crate::proofs::Along::along_start, crate::proofs::Along::along_next, crate::proofs::Along::along_less, crate::proofs::Along::halted_is))]
 fn follow(c: Config, last: &mut [u64; 16], tape: &[u8]) -> Cursor
     requires { Accepted c × (length tape.now ≤ longest) × (last.old ≡ no_stamps) }
     ensures tape_value { judged_of c (contents_of tape.now) ≡ halted_at c last.new result.clock (step_of tape.now result.at result.before).answer (contents_of tape.now).last }
@@ -56,6 +57,7 @@ fn follow(c: Config, last: &mut [u64; 16], tape: &[u8]) -> Cursor
 }
 
 // A command that is not legal. The rest of the tape is read for a refusal, which goes before it.
+#[tactic(auto, using(crate::proofs::Refusals::refused_as, crate::proofs::Refusals::passed_as), unfolding(crate::specs::Halted::illegal_by))]
 fn illegal(c: Config, last: &[u64; 16], clock: u64, command: Command, tape: &[u8]) -> Verdict
     requires { Accepted c × Clocked last.now clock × (31 < clock) × (clock ≤ 32 + 65535 * longest) }
     ensures value { result ≡ illegal_by c last.now clock command (contents_of tape.now).last }
@@ -75,6 +77,7 @@ fn illegal(c: Config, last: &[u64; 16], clock: u64, command: Command, tape: &[u8
 }
 
 // A tape that is not too long.
+#[tactic(auto, using(crate::proofs::Along::found_as), unfolding(crate::specs::Halted::halted_at))]
 fn judged(c: Config, tape: &[u8]) -> Verdict
     requires { Accepted c × (length tape.now ≤ longest) }
     ensures value { result ≡ judged_of c (contents_of tape.now) }
@@ -94,6 +97,7 @@ fn judged(c: Config, tape: &[u8]) -> Verdict
 }
 
 // Judges a tape. No run counts more than 65,535 slots, and no record is shorter than a byte: so the slot of any tape that is short enough fits 40 bits.
+#[tactic(auto, using(crate::proofs::Refusals::set_accepted), unfolding(crate::specs::Judge::judge_of))]
 pub fn judge(cfg: u32, row: u32, refr: u32, tim: u32, tape: &[u8]) -> Verdict
     ensures value { result ≡ judge_of cfg row refr tim tape.now }
     ensures slot_bound { result.slot < 2 ^ 40 }

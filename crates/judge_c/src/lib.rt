@@ -9,6 +9,7 @@ ghost use Rattle.judge_c.specs.Word.{word_of, Fits};
 use judge::Verdict;
 
 // A verdict's word. Each of its parts has its place.
+#[tactic(auto, unfolding(crate::specs::Word::word_of))]
 fn word(v: Verdict) -> u64
     requires { v.slot < 2 ^ 40 }
     ensures { (result ≡ word_of v) × Fits v }

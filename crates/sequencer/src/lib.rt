@@ -77,6 +77,7 @@ pub struct Reading {
 }
 
 // The machine that an accepted configuration gives.
+#[tactic(auto, unfolding(crate::specs::Machine::machine_of))]
 fn started_with(config: Config) -> Machine
     requires { config.rr ≤ 8191 }
     ensures { result ≡ machine_of config }
@@ -101,6 +102,7 @@ fn started_with(config: Config) -> Machine
 }
 
 // The machine that a setting gives, the blank one where its number is not 0.
+#[tactic(auto, unfolding(crate::specs::Calls::configured_by))]
 fn configured_by(setting: Setting) -> Configured
     requires { setting.number ≡ 0 → setting.config.rr ≤ 8191 }
     ensures { result ≡ configured_by setting }
@@ -148,6 +150,7 @@ fn halfword_for(kind: Kind, given: u16) -> u16
 
 impl Machine {
     // The machine that four register words give.
+    #[tactic(auto, using(config::proofs::Laws::accepted), unfolding(crate::specs::Calls::configure_of))]
     pub fn configure(cfg: u32, row: u32, refr: u32, tim: u32) -> Configured
         ensures { result ≡ configure_of cfg row refr tim }
     {
@@ -155,6 +158,7 @@ impl Machine {
     }
 
     // The machine that a refused configuration gives.
+    #[tactic(auto, unfolding(crate::specs::Machine::blank_of))]
     pub fn blank() -> Machine
         ensures { result ≡ blank_of }
     {
@@ -178,6 +182,7 @@ impl Machine {
     }
 
     // The request as it is queued, with the next number.
+    #[tactic(auto, unfolding(crate::specs::Calls::queued_request))]
     fn queued_request(self, kind: Kind, address: u32, halfword: u16) -> Request
         requires { self.accepted < last_number }
         ensures { result ≡ queued_request self kind address halfword }
@@ -191,6 +196,7 @@ impl Machine {
     }
 
     // The machine with one request more.
+    #[tactic(auto, unfolding(crate::specs::Calls::enqueued_of))]
     fn accept(self, request: Request) -> Requested
         ensures { result ≡ enqueued_of self request }
     {
@@ -209,6 +215,7 @@ impl Machine {
     }
 
     // A request, with the number that the tests gave.
+    #[tactic(auto, using(crate::proofs::Laws::request_facts), unfolding(crate::specs::Calls::request_of))]
     fn answered(self, number: u8, kind: Kind, address: u32, halfword: u16) -> Requested
         requires { number ≡ request_number_of self address }
         ensures { result ≡ request_of self kind address halfword }
@@ -267,6 +274,7 @@ impl Machine {
 
     // One slot; `bus` is the halfword that the bus carries. The arrays are lent and changed in place; the machine is built once, at the end, for a refused
     // slot too: an early return would copy it.
+    #[tactic(auto, using(crate::proofs::Laws::slot_is, crate::proofs::Sound::record_facts))]
     pub fn slot(self, bus: u16) -> Slot
         ensures { result ≡ slot_of self bus }
     {
@@ -335,6 +343,7 @@ impl Machine {
     // Runs as many slots as the shortest of the three arrays has places; `bus` has the halfword that the bus carries in each. The words of their commands and
     // reports (docs/PACKING.md) are stored from the first place on, and the places beyond the count stay. Refused, no slot is run, and nothing changes. The
     // machine's parts stay in place for all slots, and it is built once.
+    #[tactic(auto, using(crate::proofs::Batch::slots_is, crate::proofs::Batch::room_shows, crate::proofs::Sound::record_facts))]
     pub fn slots(self, bus: &[u16], commands: &mut [u64], reports: &mut [u64]) -> Slots
         ensures { gathered result commands.new reports.new ≡ many_slots_of self bus.now commands.old reports.old }
     {
@@ -401,6 +410,7 @@ impl Machine {
     }
 
     // How many refreshes are owed.
+    #[tactic(auto, unfolding(crate::specs::Calls::backlog_of))]
     pub fn backlog(self) -> Reading
         ensures { result ≡ backlog_of self }
     {

@@ -43,6 +43,7 @@ fn sent(p: Cursor, bytes: usize) -> Cursor
     }
 }
 
+#[tactic(auto, using(device::proofs::Tests::told, crate::proofs::Records::run_step_lem, crate::proofs::Records::cut_halts, crate::proofs::Records::wrong_halts, crate::proofs::Records::run_passes), unfolding(tape::specs::Reading::body_length))]
 fn take_run(tape: &[u8], p: Cursor) -> Cursor
     requires { Here tape.now p 0 × (p.clock < 2 ^ 62) }
     ensures l_value { (c : Config) (l : List ℕ) → taken_as result l ≡ taken_of c l p (step_of tape.now p.at p.before) }
@@ -63,6 +64,7 @@ fn take_run(tape: &[u8], p: Cursor) -> Cursor
     }
 }
 
+#[tactic(auto, using(device::proofs::Tests::told, crate::proofs::Records::act_four, crate::proofs::Records::act_step, crate::proofs::Records::cut_halts, crate::proofs::Records::legal_sent, crate::proofs::Records::illegal_halts), unfolding(tape::specs::Reading::body_length))]
 fn take_act(c: Config, last: &mut [u64; 16], tape: &[u8], p: Cursor) -> Cursor
     requires { Ready c last.old p × Here tape.now p 1 }
     ensures last_after { taken_as result last.new ≡ taken_of c last.old p (step_of tape.now p.at p.before) }
@@ -80,6 +82,7 @@ fn take_act(c: Config, last: &mut [u64; 16], tape: &[u8], p: Cursor) -> Cursor
     halted(p)
 }
 
+#[tactic(auto, using(device::proofs::Tests::told, crate::proofs::Records::read_step, crate::proofs::Records::cut_halts, crate::proofs::Records::legal_sent, crate::proofs::Records::illegal_halts), unfolding(tape::specs::Reading::body_length))]
 fn take_read(c: Config, last: &mut [u64; 16], tape: &[u8], p: Cursor) -> Cursor
     requires { Ready c last.old p × Here tape.now p 2 }
     ensures last_after { taken_as result last.new ≡ taken_of c last.old p (step_of tape.now p.at p.before) }
@@ -97,6 +100,7 @@ fn take_read(c: Config, last: &mut [u64; 16], tape: &[u8], p: Cursor) -> Cursor
     halted(p)
 }
 
+#[tactic(auto, using(device::proofs::Tests::told, crate::proofs::Records::pair, crate::proofs::Records::wrt_four, crate::proofs::Records::wrt_step, crate::proofs::Records::cut_halts, crate::proofs::Records::legal_sent, crate::proofs::Records::illegal_halts), unfolding(tape::specs::Reading::body_length))]
 fn take_wrt(c: Config, last: &mut [u64; 16], tape: &[u8], p: Cursor) -> Cursor
     requires { Ready c last.old p × Here tape.now p 3 }
     ensures last_after { taken_as result last.new ≡ taken_of c last.old p (step_of tape.now p.at p.before) }
@@ -114,6 +118,7 @@ fn take_wrt(c: Config, last: &mut [u64; 16], tape: &[u8], p: Cursor) -> Cursor
     halted(p)
 }
 
+#[tactic(auto, using(device::proofs::Tests::told, crate::proofs::Records::pre_four, crate::proofs::Records::pre_step, crate::proofs::Records::cut_halts, crate::proofs::Records::legal_sent, crate::proofs::Records::illegal_halts), unfolding(tape::specs::Reading::body_length))]
 fn take_pre(c: Config, last: &mut [u64; 16], tape: &[u8], p: Cursor) -> Cursor
     requires { Ready c last.old p × Here tape.now p 4 }
     ensures last_after { taken_as result last.new ≡ taken_of c last.old p (step_of tape.now p.at p.before) }
@@ -130,6 +135,7 @@ fn take_pre(c: Config, last: &mut [u64; 16], tape: &[u8], p: Cursor) -> Cursor
     halted(p)
 }
 
+#[tactic(auto, using(device::proofs::Tests::told, crate::proofs::Records::deac_step, crate::proofs::Records::legal_sent, crate::proofs::Records::illegal_halts))]
 fn take_deac(c: Config, last: &mut [u64; 16], tape: &[u8], p: Cursor) -> Cursor
     requires { Ready c last.old p × Here tape.now p 5 }
     ensures last_after { taken_as result last.new ≡ taken_of c last.old p (step_of tape.now p.at p.before) }
@@ -142,6 +148,7 @@ fn take_deac(c: Config, last: &mut [u64; 16], tape: &[u8], p: Cursor) -> Cursor
     halted(p)
 }
 
+#[tactic(auto, using(device::proofs::Tests::told, crate::proofs::Records::refr_step, crate::proofs::Records::legal_sent, crate::proofs::Records::illegal_halts))]
 fn take_refr(c: Config, last: &mut [u64; 16], tape: &[u8], p: Cursor) -> Cursor
     requires { Ready c last.old p × Here tape.now p 6 }
     ensures last_after { taken_as result last.new ≡ taken_of c last.old p (step_of tape.now p.at p.before) }
@@ -154,6 +161,7 @@ fn take_refr(c: Config, last: &mut [u64; 16], tape: &[u8], p: Cursor) -> Cursor
     halted(p)
 }
 
+#[tactic(auto, using(device::proofs::Tests::told, crate::proofs::Records::mrs_step, crate::proofs::Records::cut_halts, crate::proofs::Records::legal_sent, crate::proofs::Records::illegal_halts), unfolding(tape::specs::Reading::body_length))]
 fn take_mrs(c: Config, last: &mut [u64; 16], tape: &[u8], p: Cursor) -> Cursor
     requires { Ready c last.old p × Here tape.now p 7 }
     ensures last_after { taken_as result last.new ≡ taken_of c last.old p (step_of tape.now p.at p.before) }
@@ -170,6 +178,7 @@ fn take_mrs(c: Config, last: &mut [u64; 16], tape: &[u8], p: Cursor) -> Cursor
 }
 
 // The record at a cursor. A `match` on the kind would become an indirect jump.
+#[tactic(auto, using(crate::proofs::Records::end_halts, crate::proofs::Records::kind_halts))]
 pub fn take(c: Config, last: &mut [u64; 16], tape: &[u8], p: Cursor) -> Cursor
     requires { Ready c last.old p }
     ensures last_after { taken_as result last.new ≡ taken_of c last.old p (step_of tape.now p.at p.before) }

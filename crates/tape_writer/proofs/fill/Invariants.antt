@@ -14,8 +14,8 @@ invariant-loop-i l =
     × (all_pack (drop l.i l.words) ≡ true)
     × (length l.tape ≡ length l.initial.tape)
     × (length (piece_of l.pending (slots_in l.words)).bytes ≤ length l.initial.tape)
-    × (l.at + length (piece_of «open» (slots_in (drop l.i l.words))).bytes ≡ length (piece_of l.pending (slots_in l.words)).bytes)
-    × (stored l.tape l.at «open» (drop l.i l.words) ≡ stored l.initial.tape 0 l.pending l.words)
+    × (l.at + length (piece_of l.open (slots_in (drop l.i l.words))).bytes ≡ length (piece_of l.pending (slots_in l.words)).bytes)
+    × (stored l.tape l.at l.open (drop l.i l.words) ≡ stored l.initial.tape 0 l.pending l.words)
 
 abbrev pub decreases-loop-i : goal.decreases-loop-i
 decreases-loop-i l = length l.words - l.i

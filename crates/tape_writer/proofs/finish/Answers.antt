@@ -1,9 +1,16 @@
 use native.Mathlib.Omega.{arith}
-use Rattle.tape_writer.proofs.Passes.{measured_all}
+use lib.ListN.{length-map}
+use Rattle.packing.specs.Packing.{command_in}
+use Rattle.tape_writer.specs.Writer.{slots_in}
+use Rattle.tape_encoder.proofs.Slots.{short_run}
+use Rattle.tape_writer.proofs.Passes.{measured_all, piece_short}
 use Rattle.tape_writer.proofs.finish.Goals as goal
 
 pub overflow_add-length : goal.overflow_add-length
-overflow_add-length c = ?
+overflow_add-length c =
+    let a = c.args in
+    let m = measured_all c.measure-found.result a.pending a.words.now c.measure-found.ensures c.if-found.true in
+    record { fits = omega (arith, m.1, rw m.2 at c.run_length.ensures, piece_short a.pending (slots_in a.words.now), short_run a.pending, length-map a.words.now command_in, c.well_formed) }
 
 pub fill-requires : goal.fill-requires
 fill-requires c =

@@ -10,9 +10,9 @@ use Rattle.tape_writer.proofs.measure.Given as goal
 abbrev pub invariant-loop-i : goal.invariant-loop-i
 invariant-loop-i l =
     (l.i ≤ length l.words)
-    × (l.length + length (run_bytes «open») ≤ 6 * l.i + 3)
+    × (l.length + length (run_bytes l.open) ≤ 6 * l.i + 3)
     × (length l.words * 8 < 2 ^ 63)
-    × (onward l.pending l.length «open» (drop l.i l.words) ≡ measured_of l.pending l.words)
+    × (onward l.pending l.length l.open (drop l.i l.words) ≡ measured_of l.pending l.words)
 
 abbrev pub decreases-loop-i : goal.decreases-loop-i
 decreases-loop-i l = length l.words - l.i
