@@ -86,6 +86,7 @@ const REFR: u64 = 0x52454652;
 const MRS: u64 = 0x4d5253;
 
 // A word with a space before it.
+#[tactic(auto, unfolding(crate::specs::Output::and_word))]
 fn and_word(text: Text, letters: u64) -> Text
     ensures { result ≡ and_word text letters }
 {
@@ -93,6 +94,7 @@ fn and_word(text: Text, letters: u64) -> Text
 }
 
 // A number with a space before it.
+#[tactic(auto, unfolding(crate::specs::Output::and_number))]
 fn and_number(text: Text, n: u64) -> Text
     ensures { result ≡ and_number text n }
 {
@@ -100,6 +102,7 @@ fn and_number(text: Text, n: u64) -> Text
 }
 
 // A word and a number, each with a space before it.
+#[tactic(auto, unfolding(crate::specs::Output::and_one))]
 fn and_one(text: Text, letters: u64, a: u64) -> Text
     ensures { result ≡ and_one text letters a }
 {
@@ -107,6 +110,7 @@ fn and_one(text: Text, letters: u64, a: u64) -> Text
 }
 
 // A word and two numbers.
+#[tactic(auto, unfolding(crate::specs::Output::and_two))]
 fn and_two(text: Text, letters: u64, a: u64, b: u64) -> Text
     ensures { result ≡ and_two text letters a b }
 {
@@ -120,6 +124,7 @@ fn and_place(text: Text, letters: u64, bank: Bank, n: u16) -> Text
     and_two(text, letters, bank.0 as u64, n as u64)
 }
 
+#[tactic(auto, unfolding(crate::specs::Output::command_of))]
 fn and_command(text: Text, command: Command) -> Text
     ensures { result ≡ command_of text command }
 {
@@ -137,6 +142,7 @@ fn and_command(text: Text, command: Command) -> Text
     }
 }
 
+#[tactic(auto, unfolding(crate::specs::Output::report_of, crate::specs::Output::and_two))]
 fn and_report(text: Text, report: Report) -> Text
     ensures { result ≡ report_of text report }
 {
@@ -148,6 +154,7 @@ fn and_report(text: Text, report: Report) -> Text
 }
 
 // The beginning of a line: the call's word and a number.
+#[tactic(auto, unfolding(crate::specs::Output::begun_of))]
 fn begun(letters: u64, n: u64) -> Text
     ensures { result ≡ begun_of letters n }
 {
@@ -155,6 +162,7 @@ fn begun(letters: u64, n: u64) -> Text
 }
 
 // A line of a word and a number.
+#[tactic(auto, unfolding(crate::specs::Output::number_line))]
 fn number_line(letters: u64, n: u64) -> Text
     ensures { result ≡ number_line letters n }
 {
@@ -162,12 +170,14 @@ fn number_line(letters: u64, n: u64) -> Text
 }
 
 // A line of a word and two numbers.
+#[tactic(auto, unfolding(crate::specs::Output::pair_line))]
 fn pair_line(letters: u64, a: u8, b: u64) -> Text
     ensures { result ≡ pair_line letters a b }
 {
     and_number(begun(letters, a as u64), b).byte(10)
 }
 
+#[tactic(auto, unfolding(crate::specs::Output::slot_line))]
 fn slot_line(number: u8, command: Command, report: Report) -> Text
     ensures { result ≡ slot_line number command report }
 {
@@ -175,6 +185,7 @@ fn slot_line(number: u8, command: Command, report: Report) -> Text
 }
 
 // `?` in the place of what a word does not pack.
+#[tactic(auto, unfolding(crate::specs::Output::unknown_of))]
 fn and_unknown(text: Text) -> Text
     ensures { result ≡ unknown_of text }
 {
@@ -182,6 +193,7 @@ fn and_unknown(text: Text) -> Text
 }
 
 // The command that a word packs.
+#[tactic(auto, unfolding(crate::specs::Output::packed_command))]
 fn and_packed_command(text: Text, word: u64) -> Text
     ensures { result ≡ packed_command text word }
 {
@@ -192,6 +204,7 @@ fn and_packed_command(text: Text, word: u64) -> Text
 }
 
 // The report that a word packs.
+#[tactic(auto, unfolding(crate::specs::Output::packed_report))]
 fn and_packed_report(text: Text, word: u64) -> Text
     ensures { result ≡ packed_report text word }
 {
@@ -202,18 +215,21 @@ fn and_packed_report(text: Text, word: u64) -> Text
 }
 
 // A slot's line from its two words.
+#[tactic(auto, unfolding(crate::specs::Output::packed_line))]
 fn packed_line(command: u64, report: u64) -> Text
     ensures { result ≡ packed_line command report }
 {
     and_packed_report(and_packed_command(begun(SLOT, 0), command), report).byte(10)
 }
 
+#[tactic(auto, unfolding(crate::specs::Output::unknown_line))]
 fn unknown_line() -> Text
     ensures { result ≡ unknown_line }
 {
     Text::empty().byte(63).byte(10)
 }
 
+#[tactic(auto, unfolding(crate::specs::Output::cell_line))]
 fn cell_line(answer: ToCell) -> Text
     ensures { result ≡ cell_line answer }
 {
@@ -223,6 +239,7 @@ fn cell_line(answer: ToCell) -> Text
 }
 
 // The line of a tape's command, with its slot.
+#[tactic(auto, unfolding(crate::specs::Output::record_line))]
 fn record_line(slot: u64, command: Command) -> Text
     ensures { result ≡ record_line slot command }
 {
@@ -230,6 +247,7 @@ fn record_line(slot: u64, command: Command) -> Text
 }
 
 // The line of a tape's run.
+#[tactic(auto, unfolding(crate::specs::Output::run_line))]
 fn run_line(slot: u64, count: u16) -> Text
     ensures { result ≡ run_line slot count }
 {
@@ -238,6 +256,7 @@ fn run_line(slot: u64, count: u16) -> Text
 
 impl Answer {
     // The line that is written for it.
+    #[tactic(auto, unfolding(crate::specs::Output::answer_line))]
     pub fn line(self) -> Text
         ensures { result ≡ answer_line self }
     {

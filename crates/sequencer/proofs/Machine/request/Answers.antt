@@ -1,0 +1,5 @@
+-- The number is the definition's.
+use Rattle.sequencer.proofs.Machine.request.Goals as goal
+
+pub answered-requires : goal.answered-requires
+answered-requires c = c.request_number-number.ensures _ _ _
