@@ -1,10 +1,18 @@
+use lib.Dec.{lit≤}
+use Rattle.tape.specs.Reading.{body_length}
+use Rattle.device.proofs.Tests.{told}
+use Rattle.tape_cursor.proofs.Records.{pre_step, cut_halts, legal_sent, illegal_halts}
 use Rattle.tape_cursor.proofs.take_pre.Goals as goal
 
 pub returns-then-tape-p-lt2-clause-last_after : goal.returns-then-tape-p-lt2-clause-last_after
-returns-then-tape-p-lt2-clause-last_after c = ?
+unfolding body_length
+returns-then-tape-p-lt2-clause-last_after c =
+    rw c.halted.ensures (cut_halts c.args.c c.args.last.now c.args.tape.now c.args.p c.requires.1 (lit≤ tt) c.if-tape-p-lt2.true)
 
 pub returns-then-pre_legal-clause-last_after : goal.returns-then-pre_legal-clause-last_after
-returns-then-pre_legal-clause-last_after c = ?
+returns-then-pre_legal-clause-last_after c =
+    rw c.sent.ensures (legal_sent c.args.c c.args.last.now c.args.tape.now c.args.p _ 2 (pre_step c.requires.1 c.if-tape-p-lt2.false) (told c.pre_legal.ensures c.if-pre_legal.true) c.note_pre.ensures)
 
 pub returns-clause-last_after : goal.returns-clause-last_after
-returns-clause-last_after c = ?
+returns-clause-last_after c =
+    rw c.halted-2.ensures (illegal_halts c.args.c c.args.last.now c.args.tape.now c.args.p _ 2 (pre_step c.requires.1 c.if-tape-p-lt2.false) (told c.pre_legal.ensures c.if-pre_legal.false))

@@ -1,10 +1,18 @@
+use lib.Dec.{lit≤}
+use Rattle.tape.specs.Reading.{body_length}
+use Rattle.device.proofs.Tests.{told}
+use Rattle.tape_cursor.proofs.Records.{read_step, cut_halts, legal_sent, illegal_halts}
 use Rattle.tape_cursor.proofs.take_read.Goals as goal
 
 pub returns-then-tape-p-lt4-clause-last_after : goal.returns-then-tape-p-lt4-clause-last_after
-returns-then-tape-p-lt4-clause-last_after c = ?
+unfolding body_length
+returns-then-tape-p-lt4-clause-last_after c =
+    rw c.halted.ensures (cut_halts c.args.c c.args.last.now c.args.tape.now c.args.p c.requires.1 (lit≤ tt) c.if-tape-p-lt4.true)
 
 pub returns-then-read_legal-clause-last_after : goal.returns-then-read_legal-clause-last_after
-returns-then-read_legal-clause-last_after c = ?
+returns-then-read_legal-clause-last_after c =
+    rw c.sent.ensures (legal_sent c.args.c c.args.last.now c.args.tape.now c.args.p _ 4 (rw (← c.pair_at.ensures) at (read_step c.requires.1 c.if-tape-p-lt4.false)) (told c.read_legal.ensures c.if-read_legal.true) (c.note_read.ensures _ _))
 
 pub returns-clause-last_after : goal.returns-clause-last_after
-returns-clause-last_after c = ?
+returns-clause-last_after c =
+    rw c.halted-2.ensures (illegal_halts c.args.c c.args.last.now c.args.tape.now c.args.p _ 4 (rw (← c.pair_at.ensures) at (read_step c.requires.1 c.if-tape-p-lt4.false)) (told c.read_legal.ensures c.if-read_legal.false))

@@ -7,10 +7,10 @@ pub returns-then-number-ne0 : goal.returns-then-number-ne0
 unfolding backlog_of
 returns-then-number-ne0 c =
     let m = c.args.self in
-    simp (← c.record_number-number.ensures m.past-1.ages m.past-1.rows m.control-1.must, ne_eqb _ _ c.if-number-ne0.true)
+    simp (← c.record_number-number.ensures m.past.ages m.past.rows m.control.must, ne_eqb _ _ c.if-number-ne0.true)
 
 pub returns : goal.returns
 unfolding backlog_of
 returns c =
     let m = c.args.self in
-    simp (← c.record_number-number.ensures m.past-1.ages m.past-1.rows m.control-1.must, eq-eqb _ _ c.if-number-ne0.false)
+    simp (← c.record_number-number.ensures m.past.ages m.past.rows m.control.must, eq-eqb _ _ c.if-number-ne0.false)
