@@ -8,4 +8,4 @@ loop-p-init c = (c.requires.0, c.requires.1, rw c.requires.2 (along_start c.args
 pub loop-p-smaller : goal.loop-p-smaller
 loop-p-smaller c =
     let l = c.loop-p in
-    along_less l.invariant.0 l.invariant.2 _ _ c.take-p.ensures.0 c.loop-p-test.true
+    along_less l.invariant.0 l.invariant.2 _ _ c.take-p.ensures.last_after c.loop-p-test.true
