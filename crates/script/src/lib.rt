@@ -55,7 +55,7 @@ pub enum Call {
 pub const NUMBERS: usize = 126;
 
 // The words of a line, as far as they have been read. Its numbers are kept beside them, in an array that is lent (docs/DECISIONS.md).
-#[derive(Drop)]
+#[derive(Clone, Copy)]
 pub struct Words {
     // Is it known that the line is no call?
     wrong: bool,
@@ -70,7 +70,7 @@ pub struct Words {
 }
 
 // A line, as far as it has been read.
-#[derive(Drop)]
+#[derive(Clone, Copy)]
 pub struct Line {
     // How many bytes; 256 for more than 255.
     size: u16,
