@@ -3,10 +3,10 @@
 #![tactic(auto)]
 
 use command::Command;
-use libc::STDOUT_FILENO;
 use plan::Report;
 use queue::Kind;
 use sequencer::{Machine, Requested};
+use std::io;
 
 const SLOTS: u32 = 10000000;
 
@@ -118,13 +118,9 @@ fn run() -> Bench {
     Bench { machine, digest }
 }
 
-fn main() {
+fn main(rt: HostRuntime) -> io::Result<()> {
     let b = run();
-    io::write_all(STDOUT_FILENO, b"slots ");
-    io::print_decimal(STDOUT_FILENO, SLOTS as u64);
-    io::write_all(STDOUT_FILENO, b" accepted ");
-    io::print_decimal(STDOUT_FILENO, b.machine.accepted as u64);
-    io::write_all(STDOUT_FILENO, b" digest ");
-    io::print_decimal(STDOUT_FILENO, b.digest as u64);
-    io::write_all(STDOUT_FILENO, b"\n");
+    let accepted = b.machine.accepted;
+    let digest = b.digest;
+    println!(rt; "slots {SLOTS} accepted {accepted} digest {digest}")
 }

@@ -2,9 +2,9 @@
 // bench/best.c with -DMANY, on the proved machine (see bench/run).
 #![tactic(auto)]
 
-use libc::STDOUT_FILENO;
 use queue::Kind;
 use sequencer::{Machine, Requested};
+use std::io;
 
 const SLOTS: u32 = 10000000;
 
@@ -140,13 +140,9 @@ fn run() -> Bench {
     bench
 }
 
-fn main() {
+fn main(rt: HostRuntime) -> io::Result<()> {
     let b = run();
-    io::write_all(STDOUT_FILENO, b"slots ");
-    io::print_decimal(STDOUT_FILENO, SLOTS as u64);
-    io::write_all(STDOUT_FILENO, b" accepted ");
-    io::print_decimal(STDOUT_FILENO, b.machine.accepted as u64);
-    io::write_all(STDOUT_FILENO, b" digest ");
-    io::print_decimal(STDOUT_FILENO, b.digest as u64);
-    io::write_all(STDOUT_FILENO, b"\n");
+    let accepted = b.machine.accepted;
+    let digest = b.digest;
+    println!(rt; "slots {SLOTS} accepted {accepted} digest {digest}")
 }

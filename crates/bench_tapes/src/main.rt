@@ -6,7 +6,7 @@ ghost use Rattle.std.specs.Prelude.{◌≡◌, ◌<◌, length};
 
 use address::Bank;
 use command::Command;
-use libc::STDOUT_FILENO;
+use std::io;
 use tape::Item;
 use tape_decoder::read_at;
 
@@ -198,13 +198,11 @@ fn no_bytes() -> [u8; 131072]
     [0; 131072]
 }
 
-fn main() {
+fn main(rt: HostRuntime) -> io::Result<()> {
     let mut words = no_words();
     let mut tape = no_bytes();
     let b = run(&mut words, &mut tape);
-    io::write_all(STDOUT_FILENO, b"bytes ");
-    io::print_decimal(STDOUT_FILENO, b.bytes);
-    io::write_all(STDOUT_FILENO, b" digest ");
-    io::print_decimal(STDOUT_FILENO, b.digest as u64);
-    io::write_all(STDOUT_FILENO, b"\n");
+    let bytes = b.bytes;
+    let digest = b.digest;
+    println!(rt; "bytes {bytes} digest {digest}")
 }

@@ -103,7 +103,14 @@ pub fn wrong(machine: Machine, number: u64) -> Played
 }
 
 // The lines of the first `count` slots, unpacked from their words.
-fn unpacked(out: Out, commands: &[u64], reports: &[u64], count: usize, output: &mut [u8]) -> Out
+fn unpacked(
+    rt: &(impl Print + Eprint),
+    out: Out,
+    commands: &[u64],
+    reports: &[u64],
+    count: usize,
+    output: &mut [u8],
+) -> Out
     requires { out.waiting ≤ length output.old }
     ensures { result.waiting ≤ length output.old }
 {
@@ -116,32 +123,43 @@ fn unpacked(out: Out, commands: &[u64], reports: &[u64], count: usize, output: &
         if reports.len() <= i {
             return out;
         }
-        out = say(out, Answer::Packed(commands[i], reports[i]).line(), output);
+        out = say(
+            rt,
+            out,
+            Answer::Packed(commands[i], reports[i]).line(),
+            output,
+        );
         i += 1;
     }
     out
 }
 
 // A line where a place is not 0 any more.
-fn changed(out: Out, word: u64, output: &mut [u8]) -> Out
+fn changed(rt: &(impl Print + Eprint), out: Out, word: u64, output: &mut [u8]) -> Out
     requires { out.waiting ≤ length output.old }
     ensures { result.waiting ≤ length output.old }
 {
     if word == 0 {
         return out;
     }
-    say(out, Answer::Unknown.line(), output)
+    say(rt, out, Answer::Unknown.line(), output)
 }
 
 // Looks at the places beyond the first `count`. They are still 0: the contract of `slots` says so.
-fn beyond(out: Out, words: &[u64], count: usize, output: &mut [u8]) -> Out
+fn beyond(
+    rt: &(impl Print + Eprint),
+    out: Out,
+    words: &[u64],
+    count: usize,
+    output: &mut [u8],
+) -> Out
     requires { out.waiting ≤ length output.old }
     ensures { result.waiting ≤ length output.old }
 {
     let mut out = out;
     let mut i = count;
     while i < words.len() {
-        out = changed(out, words[i], output);
+        out = changed(rt, out, words[i], output);
         i += 1;
     }
     out
@@ -149,6 +167,7 @@ fn beyond(out: Out, words: &[u64], count: usize, output: &mut [u8]) -> Out
 
 // The lines of a call for many slots. What waits afterwards stands within the buffer.
 pub fn tell(
+    rt: &(impl Print + Eprint),
     out: Out,
     number: u8,
     count: usize,
@@ -158,7 +177,13 @@ pub fn tell(
 ) -> Out
     ensures { result.waiting ≤ length output.old }
 {
-    let first = say(out, Answer::Slots(number, count).line(), output);
-    let all = unpacked(first, commands, reports, count, output);
-    beyond(beyond(all, commands, count, output), reports, count, output)
+    let first = say(rt, out, Answer::Slots(number, count).line(), output);
+    let all = unpacked(rt, first, commands, reports, count, output);
+    beyond(
+        rt,
+        beyond(rt, all, commands, count, output),
+        reports,
+        count,
+        output,
+    )
 }

@@ -2,11 +2,11 @@
 // it with the independent reference.
 #![tactic(auto)]
 
-ghost use Rattle.std.specs.Prelude.{◌<◌, length};
+ghost use Rattle.std.specs.Prelude.{◌<◌, ◌≤◌, length};
 
 use answer::Answer;
-use libc::{STDERR_FILENO, STDIN_FILENO};
-use output::{Out, say};
+use output::{Out, fail, large_buffer, say};
+use std::io::Read;
 use tape_scan::{Scanned, scan};
 use text::Text;
 
@@ -32,19 +32,25 @@ fn begun(letters: u64, n: u64) -> Text {
 }
 
 // Every front part of a tape.
-fn cuts(out: Out, tape: &[u8], output: &mut [u8]) -> Out {
+fn cuts(rt: &(impl Print + Eprint), out: Out, tape: &[u8], output: &mut [u8]) -> Out {
     let mut out = out;
     let mut kept = 0;
     while kept <= tape.len() {
-        out = say(out, begun(CUT, kept as u64), output);
-        out = say(out, verdict(scan(&tape[..kept])), output);
+        out = say(rt, out, begun(CUT, kept as u64), output);
+        out = say(rt, out, verdict(scan(&tape[..kept])), output);
         kept += 1;
     }
     out
 }
 
 // Every tape that has another byte, or the same, at a place.
-fn values(out: Out, tape: &mut [u8], place: usize, output: &mut [u8]) -> Out
+fn values(
+    rt: &(impl Print + Eprint),
+    out: Out,
+    tape: &mut [u8],
+    place: usize,
+    output: &mut [u8],
+) -> Out
     requires { place < length tape.old }
 {
     let mut out = out;
@@ -52,56 +58,75 @@ fn values(out: Out, tape: &mut [u8], place: usize, output: &mut [u8]) -> Out
     while value < 256 {
         tape[place] = value as u8;
         out = say(
+            rt,
             out,
             begun(CHANGE, place as u64).decimal(value).byte(32),
             output,
         );
-        out = say(out, verdict(scan(tape)), output);
+        out = say(rt, out, verdict(scan(tape)), output);
         value += 1;
     }
     out
 }
 
 // And at every place.
-fn changes(out: Out, tape: &mut [u8], output: &mut [u8]) -> Out {
+fn changes(rt: &(impl Print + Eprint), out: Out, tape: &mut [u8], output: &mut [u8]) -> Out {
     let mut out = out;
     let mut place = 0;
     while place < tape.len() {
         let byte = tape[place];
-        out = values(out, tape, place, output);
+        out = values(rt, out, tape, place, output);
         tape[place] = byte;
         place += 1;
     }
     out
 }
 
-fn damaged(tape: &mut [u8], output: &mut [u8]) {
-    let out = cuts(output::nothing(), tape, output);
-    output::written(changes(out, tape, output), output);
+fn damaged(rt: &(impl Print + Eprint), tape: &mut [u8], output: &mut [u8]) {
+    let out = cuts(rt, output::nothing(), tape, output);
+    output::written(rt, changes(rt, out, tape, output), output);
 }
 
 // After what was read: has the input ended?
-fn ended() -> bool {
+fn ended(rt: &(impl Input + Eprint)) -> bool {
     let mut more = [0u8; 1];
-    let got = libc::read(STDIN_FILENO, &mut more);
-    if got < 0 {
-        os::fail(b"read");
+    match rt.reader().read(&mut more) {
+        Ok(got) => got == 0,
+        Err(why) => {
+            fail(rt, "read", why);
+            false
+        }
     }
-    got == 0
 }
 
-fn main() {
-    let mut input = io::large_buffer();
-    let mut output = io::large_buffer();
-    let n = io::read_full(STDIN_FILENO, &mut input);
+// Reads until the input ends or the buffer is full, and answers how many bytes came. A read that fails ends it too: `ended` says why.
+fn read_full(rt: &impl Input, input: &mut [u8]) -> usize
+    ensures { result ≤ length input.old }
+{
+    let mut reader = rt.reader();
+    let mut done = 0;
+    while done < input.len() {
+        let got = match reader.read(&mut input[done..]) {
+            Ok(got) => got,
+            Err(_) => 0,
+        };
+        if got == 0 {
+            return done;
+        }
+        done += got;
+    }
+    done
+}
+
+fn main(rt: HostRuntime) {
+    let mut input = large_buffer();
+    let mut output = large_buffer();
+    let n = read_full(&rt, &mut input);
     if MOST < n {
-        io::write_all(
-            STDERR_FILENO,
-            b"damage: give a tape of 4,096 bytes at most\n",
-        );
+        let _ = eprintln!(rt; "damage: give a tape of 4,096 bytes at most");
         return;
     }
-    if ended() {
-        damaged(&mut input[..n], &mut output);
+    if ended(&rt) {
+        damaged(&rt, &mut input[..n], &mut output);
     }
 }

@@ -4,10 +4,10 @@
 ghost use Rattle.std.specs.Prelude.{◌≤◌, ◌≡◌, false, length};
 ghost use Rattle.output.specs.Waiting.{Limited, Emptied, Roomy};
 
-use libc::STDOUT_FILENO;
+use std::io;
 use text::Text;
 
-#[derive(Drop)]
+#[derive(Clone, Copy)]
 pub struct Out {
     // How many bytes wait, from the buffer's first place on.
     pub waiting: usize,
@@ -22,6 +22,13 @@ pub fn nothing() -> Out
         waiting: 0,
         failed: false,
     }
+}
+
+// 65,536 zeros, to read or write much in one call.
+pub fn large_buffer() -> [u8; 65536]
+    ensures { 65536 ≡ length result }
+{
+    [0; 65536]
 }
 
 // n, but no more than `most`.
@@ -57,19 +64,26 @@ pub fn put(output: &mut [u8], waiting: usize, text: Text) -> usize
     at
 }
 
+// Says on standard error what failed, and why.
+pub fn fail(rt: &impl Eprint, what: &str, why: io::Error) {
+    let _ = eprintln!(rt; "{what}: {why}");
+}
+
 // Writes the bytes that wait, and answers whether that failed.
-fn flush(output: &[u8], waiting: usize) -> bool
+fn flush(rt: &(impl Print + Eprint), output: &[u8], waiting: usize) -> bool
     requires { waiting ≤ length output.now }
 {
-    if io::write_all(STDOUT_FILENO, &output[..waiting]) {
-        return false;
+    match rt.write_all(&output[..waiting]) {
+        Ok(()) => false,
+        Err(why) => {
+            fail(rt, "write", why);
+            true
+        }
     }
-    os::fail(b"write");
-    true
 }
 
 // Writes what waits. Where that fails, nothing more is written.
-pub fn written(out: Out, output: &[u8]) -> Out
+pub fn written(rt: &(impl Print + Eprint), out: Out, output: &[u8]) -> Out
     ensures { Emptied out result }
 {
     if out.failed {
@@ -78,29 +92,29 @@ pub fn written(out: Out, output: &[u8]) -> Out
     let waiting = at_most(out.waiting, output.len());
     Out {
         waiting: 0,
-        failed: flush(output, waiting),
+        failed: flush(rt, output, waiting),
     }
 }
 
 // Writes what waits where fewer than `needed` places are left behind it.
-pub fn with_room(out: Out, needed: usize, output: &[u8]) -> Out
+pub fn with_room(rt: &(impl Print + Eprint), out: Out, needed: usize, output: &[u8]) -> Out
     ensures { Roomy out needed (length output.now) result }
 {
     let waiting = out.waiting;
     if output.len() < waiting {
-        return written(out, output);
+        return written(rt, out, output);
     }
     if output.len() - waiting < needed {
-        return written(out, output);
+        return written(rt, out, output);
     }
     out
 }
 
 // Puts a text behind what waits, and writes that first where there is no room for a text's 64 bytes.
-pub fn say(out: Out, text: Text, output: &mut [u8]) -> Out
+pub fn say(rt: &(impl Print + Eprint), out: Out, text: Text, output: &mut [u8]) -> Out
     ensures { result.waiting ≤ length output.old }
 {
-    let ready = with_room(out, 64, output);
+    let ready = with_room(rt, out, 64, output);
     let waiting = at_most(ready.waiting, output.len());
     Out {
         waiting: put(output, waiting, text),

@@ -7,7 +7,6 @@ ghost use Rattle.script.specs.Line.{no_line};
 ghost use Rattle.play.specs.Run.{is_tape, start_of, over_of};
 
 use calls::Played;
-use libc::STDERR_FILENO;
 use output::{Out, at_most, say};
 use packing::pack_command;
 use queue::Kind;
@@ -21,7 +20,7 @@ pub enum Mode {
     Tape,
 }
 
-#[derive(Drop)]
+#[derive(Clone, Copy)]
 pub struct Run {
     pub machine: Machine,
     // The line under way, and its number, counted from 1.
@@ -78,7 +77,7 @@ pub fn over(run: Run) -> Run
 }
 
 // After a call that has one line of output.
-fn answered(run: Run, played: Played, output: &mut [u8]) -> Run {
+fn answered(rt: &(impl Print + Eprint), run: Run, played: Played, output: &mut [u8]) -> Run {
     let machine = played.machine;
     let mut after = run;
     after.machine = machine;
@@ -87,61 +86,65 @@ fn answered(run: Run, played: Played, output: &mut [u8]) -> Run {
     }
     let text = played.text;
     let before = run.out;
-    let out = say(before, text, output);
+    let out = say(rt, before, text, output);
     after.out = out;
     after
 }
 
 // What a recording has to say to a person, on standard error.
-fn tell(words: &[u8]) {
-    io::write_all(STDERR_FILENO, words);
+fn tell(rt: &impl Eprint, words: &str) {
+    let _ = rt.eprint(words);
 }
 
-fn tell_line(line: u64) {
-    tell(b"record: line ");
-    io::print_decimal(STDERR_FILENO, line);
+fn tell_line(rt: &impl Eprint, line: u64) {
+    let _ = eprint!(rt; "record: line {line}");
 }
 
-fn tell_no_call(line: u64) {
-    tell_line(line);
-    tell(b" is no call and is passed over\n");
+fn tell_no_call(rt: &impl Eprint, line: u64) {
+    tell_line(rt, line);
+    tell(rt, " is no call and is passed over\n");
 }
 
-fn tell_refused(line: u64, number: u8) {
-    tell_line(line);
-    tell(b": the configuration is refused with number ");
-    io::print_decimal(STDERR_FILENO, number as u64);
-    tell(b"; slots are refused until another is accepted\n");
+fn tell_refused(rt: &impl Eprint, line: u64, number: u8) {
+    tell_line(rt, line);
+    let _ = eprint!(rt; ": the configuration is refused with number {number}");
+    tell(rt, "; slots are refused until another is accepted\n");
 }
 
-fn tell_second(line: u64) {
-    tell_line(line);
-    tell(b" configures the machine again: the tape ends before it\n");
+fn tell_second(rt: &impl Eprint, line: u64) {
+    tell_line(rt, line);
+    tell(
+        rt,
+        " configures the machine again: the tape ends before it\n",
+    );
 }
 
-fn tell_empty() {
-    tell(b"record: no configuration is accepted: the tape is empty\n");
+fn tell_empty(rt: &impl Eprint) {
+    tell(
+        rt,
+        "record: no configuration is accepted: the tape is empty\n",
+    );
 }
 
-fn wrong(run: Run, output: &mut [u8]) -> Run {
+fn wrong(rt: &(impl Print + Eprint), run: Run, output: &mut [u8]) -> Run {
     if run.taped {
-        tell_no_call(run.number);
+        tell_no_call(rt, run.number);
         return run;
     }
     let machine = run.machine;
-    answered(run, calls::wrong(machine, run.number), output)
+    answered(rt, run, calls::wrong(machine, run.number), output)
 }
 
 // A configuration's answer, for a tape: the first that is accepted begins it, and the second ends it.
-fn begin(run: Run, number: u8, machine: Machine) -> Run {
+fn begin(rt: &impl Eprint, run: Run, number: u8, machine: Machine) -> Run {
     let mut after = run;
     if number != 0 {
-        tell_refused(run.number, number);
+        tell_refused(rt, run.number, number);
         after.machine = machine;
         return after;
     }
     if run.begun {
-        tell_second(run.number);
+        tell_second(rt, run.number);
         return over(run);
     }
     after.machine = machine;
@@ -149,19 +152,27 @@ fn begin(run: Run, number: u8, machine: Machine) -> Run {
     after
 }
 
-fn configure(run: Run, cfg: u32, row: u32, refr: u32, tim: u32, output: &mut [u8]) -> Run {
+fn configure(
+    rt: &(impl Print + Eprint),
+    run: Run,
+    cfg: u32,
+    row: u32,
+    refr: u32,
+    tim: u32,
+    output: &mut [u8],
+) -> Run {
     if run.taped {
         let answer = Machine::configure(cfg, row, refr, tim);
         let machine = answer.machine;
-        return begin(run, answer.number, machine);
+        return begin(rt, run, answer.number, machine);
     }
-    answered(run, calls::configure(cfg, row, refr, tim), output)
+    answered(rt, run, calls::configure(cfg, row, refr, tim), output)
 }
 
 // Goes on with the tape by the slots of a row of words.
-fn taped(run: Run, words: &[u64], output: &mut [u8]) -> Run {
+fn taped(rt: &(impl Print + Eprint), run: Run, words: &[u64], output: &mut [u8]) -> Run {
     let before = run.out;
-    let tape = recording::add(before, run.pending, words, output);
+    let tape = recording::add(rt, before, run.pending, words, output);
     let out = tape.out;
     let mut after = run;
     after.out = out;
@@ -170,7 +181,7 @@ fn taped(run: Run, words: &[u64], output: &mut [u8]) -> Run {
 }
 
 // A slot, for a tape. A refused one is none.
-fn taped_slot(run: Run, carried: u16, output: &mut [u8]) -> Run {
+fn taped_slot(rt: &(impl Print + Eprint), run: Run, carried: u16, output: &mut [u8]) -> Run {
     let before = run.machine;
     let answer = before.slot(carried);
     if answer.number != 0 {
@@ -181,15 +192,15 @@ fn taped_slot(run: Run, carried: u16, output: &mut [u8]) -> Run {
     after.machine = machine;
     let command = answer.command;
     let words = [pack_command(command)];
-    taped(after, &words, output)
+    taped(rt, after, &words, output)
 }
 
-fn slot(run: Run, carried: u16, output: &mut [u8]) -> Run {
+fn slot(rt: &(impl Print + Eprint), run: Run, carried: u16, output: &mut [u8]) -> Run {
     if run.taped {
-        return taped_slot(run, carried, output);
+        return taped_slot(rt, run, carried, output);
     }
     let machine = run.machine;
-    answered(run, calls::slot(machine, carried), output)
+    answered(rt, run, calls::slot(machine, carried), output)
 }
 
 // Puts the first `count` numbers behind the halfwords that wait, and answers how many wait then.
@@ -211,20 +222,28 @@ fn append(bus: &mut [u16], waiting: usize, given: &[u32; NUMBERS], count: usize)
 }
 
 // The call `bus`, with so many halfwords.
-fn add(run: Run, count: usize, given: &[u32; NUMBERS], bus: &mut [u16], output: &mut [u8]) -> Run {
+fn add(
+    rt: &(impl Print + Eprint),
+    run: Run,
+    count: usize,
+    given: &[u32; NUMBERS],
+    bus: &mut [u16],
+    output: &mut [u8],
+) -> Run {
     let waiting = at_most(run.halfwords, bus.len());
     if bus.len() - waiting < count {
-        return wrong(run, output);
+        return wrong(rt, run, output);
     }
     let machine = run.machine;
     let halfwords = append(bus, waiting, given, count);
     let mut after = run;
     after.halfwords = halfwords;
-    answered(after, calls::bus(machine, halfwords), output)
+    answered(rt, after, calls::bus(machine, halfwords), output)
 }
 
 // What is written for a call for many slots.
 fn told(
+    rt: &(impl Print + Eprint),
     run: Run,
     number: u8,
     count: usize,
@@ -234,10 +253,10 @@ fn told(
 ) -> Run {
     if run.taped {
         let n = at_most(count, commands.len());
-        return taped(run, &commands[..n], output);
+        return taped(rt, run, &commands[..n], output);
     }
     let before = run.out;
-    let out = calls::tell(before, number, count, commands, reports, output);
+    let out = calls::tell(rt, before, number, count, commands, reports, output);
     let mut after = run;
     after.out = out;
     after
@@ -245,6 +264,7 @@ fn told(
 
 // The call for many slots, on arrays of zeros. After it no halfword waits.
 fn run_slots(
+    rt: &(impl Print + Eprint),
     run: Run,
     bus: &[u16],
     commands: &mut [u64],
@@ -258,6 +278,7 @@ fn run_slots(
     after.machine = machine;
     after.halfwords = 0;
     told(
+        rt,
         after,
         answer.number,
         answer.count,
@@ -274,13 +295,21 @@ fn zeros() -> [u64; 4096]
 }
 
 // The call `slots`, with so many places for commands and for reports: 4,096 at most, as `script` has seen to.
-fn slots(run: Run, commands: u32, reports: u32, bus: &[u16], output: &mut [u8]) -> Run {
+fn slots(
+    rt: &(impl Print + Eprint),
+    run: Run,
+    commands: u32,
+    reports: u32,
+    bus: &[u16],
+    output: &mut [u8],
+) -> Run {
     let mut command_words = zeros();
     let mut report_words = zeros();
     let waiting = at_most(run.halfwords, bus.len());
     let c = at_most(commands as usize, 4096);
     let r = at_most(reports as usize, 4096);
     run_slots(
+        rt,
         run,
         &bus[..waiting],
         &mut command_words[..c],
@@ -291,6 +320,7 @@ fn slots(run: Run, commands: u32, reports: u32, bus: &[u16], output: &mut [u8]) 
 
 // Plays a line.
 fn play_call(
+    rt: &(impl Print + Eprint),
     run: Run,
     call: Call,
     given: &[u32; NUMBERS],
@@ -300,42 +330,52 @@ fn play_call(
     let machine = run.machine;
     match call {
         Call::Nothing => run,
-        Call::Wrong => wrong(run, output),
-        Call::Config(cfg, row, refr, tim) => configure(run, cfg, row, refr, tim, output),
+        Call::Wrong => wrong(rt, run, output),
+        Call::Config(cfg, row, refr, tim) => configure(rt, run, cfg, row, refr, tim, output),
         Call::Read(address) => answered(
+            rt,
             run,
             calls::request(machine, Kind::Read, address, 0),
             output,
         ),
         Call::Write(address, halfword) => answered(
+            rt,
             run,
             calls::request(machine, Kind::Write, address, halfword),
             output,
         ),
-        Call::Slot(carried) => slot(run, carried, output),
-        Call::Backlog => answered(run, calls::backlog(machine), output),
+        Call::Slot(carried) => slot(rt, run, carried, output),
+        Call::Backlog => answered(rt, run, calls::backlog(machine), output),
         Call::Cell(cfg, row, address) => answered(
+            rt,
             run,
             calls::cell(machine, cfg, row, address),
             output,
         ),
         Call::Address(cfg, row, place) => answered(
+            rt,
             run,
             calls::address_of(machine, cfg, row, place),
             output,
         ),
-        Call::Bus(count) => add(run, count, given, bus, output),
-        Call::Slots(commands, reports) => slots(run, commands, reports, bus, output),
+        Call::Bus(count) => add(rt, run, count, given, bus, output),
+        Call::Slots(commands, reports) => slots(rt, run, commands, reports, bus, output),
     }
 }
 
 // The line under way has ended: plays it. The next one is empty, and has the next number.
-pub fn ended(run: Run, given: &mut [u32; NUMBERS], bus: &mut [u16], output: &mut [u8]) -> Run
+pub fn ended(
+    rt: &(impl Print + Eprint),
+    run: Run,
+    given: &mut [u32; NUMBERS],
+    bus: &mut [u16],
+    output: &mut [u8],
+) -> Run
     ensures { (result.line ≡ no_line) × (result.number ≡ (run.number + 1) % 18446744073709551616) }
 {
     let line = run.line;
     line.end(given);
-    let played = play_call(run, line.call(given), given, bus, output);
+    let played = play_call(rt, run, line.call(given), given, bus, output);
     let empty = Line::empty();
     let mut after = played;
     after.line = empty;
@@ -344,15 +384,15 @@ pub fn ended(run: Run, given: &mut [u32; NUMBERS], bus: &mut [u16], output: &mut
 }
 
 // Nothing more is played: the tape gets its last record. Lines need nothing more.
-pub fn finished(run: Run, output: &mut [u8]) -> Out
+pub fn finished(rt: &(impl Print + Eprint), run: Run, output: &mut [u8]) -> Out
     ensures { run.taped ≡ false → result ≡ run.out }
 {
     let out = run.out;
     if run.taped {
         if run.begun {
-            return recording::end(out, run.pending, output);
+            return recording::end(rt, out, run.pending, output);
         }
-        tell_empty();
+        tell_empty(rt);
     }
     out
 }

@@ -3,10 +3,11 @@
 
 ghost use Rattle.std.specs.Prelude.{◌≤◌, ◌≡◌, false, length};
 
-use libc::STDIN_FILENO;
-use output::{Out, written};
+use output::{Out, fail, large_buffer, written};
 use play::{Mode, Run, ended, over};
 use script::{Line, NUMBERS};
+use std::io;
+use std::io::Read;
 
 // A line, as far as it has been read, and the place in the input where its line feed is, or the input's end.
 #[derive(Drop)]
@@ -35,6 +36,7 @@ fn scan(line: Line, given: &mut [u32; NUMBERS], input: &[u8], from: usize) -> Sc
 
 // Plays the input, which may begin and end within a line.
 fn play_all(
+    rt: &(impl Print + Eprint),
     run: Run,
     given: &mut [u32; NUMBERS],
     input: &[u8],
@@ -53,7 +55,7 @@ fn play_all(
             return run;
         }
         at += 1;
-        run = ended(run, given, bus, output);
+        run = ended(rt, run, given, bus, output);
         if run.over {
             return run;
         }
@@ -62,8 +64,8 @@ fn play_all(
 }
 
 // Nothing more can be read: the line under way is not played.
-fn broken(run: Run) -> Run {
-    os::fail(b"read");
+fn broken(rt: &impl Eprint, run: Run, why: io::Error) -> Run {
+    fail(rt, "read", why);
     let said = run.out;
     let out = Out {
         waiting: said.waiting,
@@ -76,19 +78,24 @@ fn broken(run: Run) -> Run {
 }
 
 // Reads once, plays what came and writes what waits then.
-fn turn(run: Run, given: &mut [u32; NUMBERS], bus: &mut [u16], output: &mut [u8]) -> Run {
-    let mut input = io::large_buffer();
-    let got = libc::read(STDIN_FILENO, &mut input);
-    if got < 0 {
-        return broken(run);
-    }
-    if got == 0 {
+fn turn(
+    rt: &(impl Input + Print + Eprint),
+    run: Run,
+    given: &mut [u32; NUMBERS],
+    bus: &mut [u16],
+    output: &mut [u8],
+) -> Run {
+    let mut input = large_buffer();
+    let n = match rt.reader().read(&mut input) {
+        Ok(n) => n,
+        Err(why) => return broken(rt, run, why),
+    };
+    if n == 0 {
         return over(run);
     }
-    let n = io::count(got, &input);
-    let played = play_all(run, given, &input[..n], bus, output);
+    let played = play_all(rt, run, given, &input[..n], bus, output);
     let said = played.out;
-    let out = written(said, output);
+    let out = written(rt, said, output);
     let mut after = played;
     after.out = out;
     if out.failed {
@@ -98,11 +105,17 @@ fn turn(run: Run, given: &mut [u32; NUMBERS], bus: &mut [u16], output: &mut [u8]
 }
 
 // A proved loop has to end, and nothing says that a script does. So the loop counts its turns down, from a number that no run uses up.
-fn turns(run: Run, given: &mut [u32; NUMBERS], bus: &mut [u16], output: &mut [u8]) -> Run {
+fn turns(
+    rt: &(impl Input + Print + Eprint),
+    run: Run,
+    given: &mut [u32; NUMBERS],
+    bus: &mut [u16],
+    output: &mut [u8],
+) -> Run {
     let mut run = run;
     let mut left = u64::MAX;
     while left > 0 {
-        run = turn(run, given, bus, output);
+        run = turn(rt, run, given, bus, output);
         if run.over {
             return run;
         }
@@ -119,19 +132,19 @@ fn no_halfwords() -> [u16; 4096]
 }
 
 // Plays all of it. Unless reading or writing has failed, nothing waits to be written at the end.
-pub fn play_script(mode: Mode) -> Out
+pub fn play_script(rt: &(impl Input + Print + Eprint), mode: Mode) -> Out
     ensures { result.failed ≡ false → result.waiting ≡ 0 }
 {
     let mut given = [0; NUMBERS];
     let mut bus = no_halfwords();
-    let mut output = io::large_buffer();
-    let run = turns(play::start(mode), &mut given, &mut bus, &mut output);
+    let mut output = large_buffer();
+    let run = turns(rt, play::start(mode), &mut given, &mut bus, &mut output);
     let said = run.out;
     if said.failed {
         return said;
     }
     // A last line without a line feed counts. After a tape's end none is under way.
-    let last = ended(run, &mut given, &mut bus, &mut output);
-    let out = play::finished(last, &mut output);
-    written(out, &output)
+    let last = ended(rt, run, &mut given, &mut bus, &mut output);
+    let out = play::finished(rt, last, &mut output);
+    written(rt, out, &output)
 }

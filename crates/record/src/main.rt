@@ -3,6 +3,6 @@
 
 use play::Mode;
 
-fn main() {
-    player::play_script(Mode::Tape);
+fn main(rt: HostRuntime) {
+    player::play_script(&rt, Mode::Tape);
 }

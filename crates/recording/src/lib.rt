@@ -18,10 +18,16 @@ pub struct Tape {
 const ROOM: usize = 24579;
 
 // Goes on with a tape by the slots of a row of words.
-pub fn add(out: Out, pending: u16, words: &[u64], output: &mut [u8]) -> Tape
+pub fn add(
+    rt: &(impl Print + Eprint),
+    out: Out,
+    pending: u16,
+    words: &[u64],
+    output: &mut [u8],
+) -> Tape
     ensures { Lent words.now output.old → result.out.failed ≡ false → Added out pending words.now output.old output.new result }
 {
-    let ready = with_room(out, ROOM, output);
+    let ready = with_room(rt, out, ROOM, output);
     let waiting = at_most(ready.waiting, output.len());
     let more = extend(pending, words, &mut output[waiting..]);
     let after = Out {
@@ -35,10 +41,10 @@ pub fn add(out: Out, pending: u16, words: &[u64], output: &mut [u8]) -> Tape
 }
 
 // Ends a tape: the NOPs that wait get their record.
-pub fn end(out: Out, pending: u16, output: &mut [u8]) -> Out
+pub fn end(rt: &(impl Print + Eprint), out: Out, pending: u16, output: &mut [u8]) -> Out
     ensures { 24579 ≤ length output.old → result.failed ≡ false → Ended out pending output.old output.new result }
 {
-    let ready = with_room(out, ROOM, output);
+    let ready = with_room(rt, out, ROOM, output);
     let waiting = at_most(ready.waiting, output.len());
     let last = finish(pending, &[], &mut output[waiting..]);
     Out {

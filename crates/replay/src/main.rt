@@ -3,6 +3,6 @@
 
 use play::Mode;
 
-fn main() {
-    player::play_script(Mode::Lines);
+fn main(rt: HostRuntime) {
+    player::play_script(&rt, Mode::Lines);
 }

@@ -4,14 +4,15 @@
 ghost use Rattle.std.specs.Prelude.{◌≤◌, length};
 
 use answer::Answer;
-use libc::{STDERR_FILENO, STDIN_FILENO};
-use output::{Out, at_most, say};
+use output::{Out, at_most, fail, large_buffer, say};
+use std::io;
+use std::io::Read;
 use tape::{Item, Refusal};
 use tape_decoder::read_at;
 use text::Text;
 
 // How far the tape has been read. What stands in the input buffer is a part of it, and begins with a record.
-#[derive(Drop)]
+#[derive(Clone, Copy)]
 struct Shown {
     // The place on the tape of the buffer's first byte.
     base: u64,
@@ -54,10 +55,10 @@ fn last_line(slots: u64, base: u64, item: Item) -> Text {
 }
 
 // Says a record.
-fn told(before: Shown, item: Item, output: &mut [u8]) -> Shown {
+fn told(rt: &(impl Print + Eprint), before: Shown, item: Item, output: &mut [u8]) -> Shown {
     let slot = std::num::wrapping_add_u64(before.slots, 1);
     let said = before.out;
-    let out = say(said, record_line(slot, item), output);
+    let out = say(rt, said, record_line(slot, item), output);
     let mut after = before;
     after.slots = std::num::wrapping_add_u64(before.slots, tape_scan::slots(item));
     after.out = out;
@@ -65,7 +66,7 @@ fn told(before: Shown, item: Item, output: &mut [u8]) -> Shown {
 }
 
 // Says the records of a part of the tape, up to its end or a refused one: those leave the reader where it is.
-fn records(before: Shown, part: &[u8], output: &mut [u8]) -> Shown {
+fn records(rt: &(impl Print + Eprint), before: Shown, part: &[u8], output: &mut [u8]) -> Shown {
     let mut shown = before;
     let mut at = 0;
     while at < part.len() {
@@ -75,7 +76,7 @@ fn records(before: Shown, part: &[u8], output: &mut [u8]) -> Shown {
             return shown;
         }
         let item = found.item;
-        shown = told(shown, item, output);
+        shown = told(rt, shown, item, output);
         shown.run = found.before;
         at = found.at;
     }
@@ -106,48 +107,37 @@ fn byte_at(part: &[u8], at: usize) -> u8 {
 }
 
 // Says why a record is refused.
-fn reason(why: Refusal, kind: u8) {
-    match why {
-        Refusal::Kind => {
-            io::write_all(STDERR_FILENO, b"no record has the kind ");
-            io::print_decimal(STDERR_FILENO, kind as u64);
-        }
-        Refusal::Cut => {
-            io::write_all(STDERR_FILENO, b"the tape ends within the record");
-        }
-        Refusal::Run => {
-            io::write_all(
-                STDERR_FILENO,
-                b"a run of no NOPs, or a run after a run of fewer than 65,535",
-            );
-        }
-    }
+fn reason(rt: &impl Eprint, why: Refusal, kind: u8) {
+    let _ = match why {
+        Refusal::Kind => eprint!(rt; "no record has the kind {kind}"),
+        Refusal::Cut => rt.eprint("the tape ends within the record"),
+        Refusal::Run => { rt.eprint("a run of no NOPs, or a run after a run of fewer than 65,535") }
+    };
 }
 
 // A sentence for a person where a record is refused.
-fn explained(base: u64, part: &[u8], item: Item) {
+fn explained(rt: &impl Eprint, base: u64, part: &[u8], item: Item) {
     match item {
         Item::End => {}
         Item::Command(_) => {}
         Item::Run(_) => {}
         Item::Refused(why, at) => {
-            io::write_all(STDERR_FILENO, b"show: the record at place ");
-            io::print_decimal(STDERR_FILENO, std::num::wrapping_add_u64(base, at as u64));
-            io::write_all(STDERR_FILENO, b" is refused: ");
-            reason(why, byte_at(part, at));
-            io::write_all(STDERR_FILENO, b"\n");
+            let place = std::num::wrapping_add_u64(base, at as u64);
+            let _ = eprint!(rt; "show: the record at place {place} is refused: ");
+            reason(rt, why, byte_at(part, at));
+            let _ = rt.eprint("\n");
         }
     }
 }
 
 // The tape has no more to show: says what stands at the reader's place.
-fn ended(before: Shown, part: &[u8], output: &mut [u8]) -> Shown {
+fn ended(rt: &(impl Print + Eprint), before: Shown, part: &[u8], output: &mut [u8]) -> Shown {
     let found = read_at(part, before.at, before.run);
     let item = found.item;
     let said = before.out;
-    let last = say(said, last_line(before.slots, before.base, item), output);
-    let out = output::written(last, output);
-    explained(before.base, part, item);
+    let last = say(rt, said, last_line(before.slots, before.base, item), output);
+    let out = output::written(rt, last, output);
+    explained(rt, before.base, part, item);
     let mut after = before;
     after.out = out;
     after.over = true;
@@ -166,11 +156,11 @@ fn moved(part: &mut [u8], from: usize) {
 }
 
 // The part of the tape in the buffer has no whole record any more: its rest begins the next part.
-fn kept(before: Shown, part: &mut [u8], output: &[u8]) -> Shown {
+fn kept(rt: &(impl Print + Eprint), before: Shown, part: &mut [u8], output: &[u8]) -> Shown {
     let at = at_most(before.at, part.len());
     moved(part, at);
     let said = before.out;
-    let out = output::written(said, output);
+    let out = output::written(rt, said, output);
     let mut after = before;
     after.base = std::num::wrapping_add_u64(before.base, at as u64);
     after.held = part.len() - at;
@@ -181,51 +171,61 @@ fn kept(before: Shown, part: &mut [u8], output: &[u8]) -> Shown {
 }
 
 // Shows a part of the tape.
-fn part_shown(before: Shown, part: &mut [u8], output: &mut [u8]) -> Shown {
-    let shown = records(before, part, output);
+fn part_shown(
+    rt: &(impl Print + Eprint),
+    before: Shown,
+    part: &mut [u8],
+    output: &mut [u8],
+) -> Shown {
+    let shown = records(rt, before, part, output);
     let found = read_at(part, shown.at, shown.run);
     let item = found.item;
     if waits(item) {
-        return kept(shown, part, output);
+        return kept(rt, shown, part, output);
     }
-    ended(shown, part, output)
+    ended(rt, shown, part, output)
 }
 
 // Nothing more can be read.
-fn broken(before: Shown) -> Shown {
-    os::fail(b"read");
+fn broken(rt: &impl Eprint, before: Shown, why: io::Error) -> Shown {
+    fail(rt, "read", why);
     let mut after = before;
     after.over = true;
     after
 }
 
 // Reads once, behind the bytes that wait.
-fn fetched(input: &mut [u8], held: usize) -> isize
+fn fetched(rt: &impl Input, input: &mut [u8], held: usize) -> io::Result<usize>
     requires { held ≤ length input.old }
 {
-    libc::read(STDIN_FILENO, &mut input[held..])
+    rt.reader().read(&mut input[held..])
 }
 
 // Reads once, and shows what came.
-fn turn(before: Shown, input: &mut [u8], output: &mut [u8]) -> Shown {
+fn turn(
+    rt: &(impl Input + Print + Eprint),
+    before: Shown,
+    input: &mut [u8],
+    output: &mut [u8],
+) -> Shown {
     let held = at_most(before.held, input.len());
-    let got = fetched(input, held);
-    if got < 0 {
-        return broken(before);
-    }
+    let got = match fetched(rt, input, held) {
+        Ok(got) => got,
+        Err(why) => return broken(rt, before, why),
+    };
     if got == 0 {
-        return ended(before, &input[..held], output);
+        return ended(rt, before, &input[..held], output);
     }
-    let n = at_most(held + io::count(got, input), input.len());
-    part_shown(before, &mut input[..n], output)
+    let n = at_most(held + got, input.len());
+    part_shown(rt, before, &mut input[..n], output)
 }
 
 // A proved loop has to end, and nothing says that a tape does. So the loop counts its turns down, from a number that no run uses up.
-fn turns(before: Shown, input: &mut [u8], output: &mut [u8]) {
+fn turns(rt: &(impl Input + Print + Eprint), before: Shown, input: &mut [u8], output: &mut [u8]) {
     let mut shown = before;
     let mut left = u64::MAX;
     while left > 0 {
-        shown = turn(shown, input, output);
+        shown = turn(rt, shown, input, output);
         if shown.over {
             return;
         }
@@ -246,8 +246,8 @@ fn start() -> Shown {
     }
 }
 
-fn main() {
-    let mut input = io::large_buffer();
-    let mut output = io::large_buffer();
-    turns(start(), &mut input, &mut output);
+fn main(rt: HostRuntime) {
+    let mut input = large_buffer();
+    let mut output = large_buffer();
+    turns(&rt, start(), &mut input, &mut output);
 }

@@ -3,10 +3,10 @@
 #![tactic(auto)]
 
 use command::Command;
-use libc::STDOUT_FILENO;
 use plan::Report;
 use queue::Kind;
 use sequencer::Machine;
+use std::io;
 
 // The halfword that is written, and that the SDRAM gives back.
 const HALFWORD: u16 = 7;
@@ -24,50 +24,49 @@ struct Show {
     due: u64,
 }
 
-fn say(text: &[u8]) {
-    io::write_all(STDOUT_FILENO, text);
+fn say(rt: &impl Print, text: &str) -> io::Result<()> {
+    rt.print(text)
 }
 
 // A word and a number.
-fn tell(text: &[u8], n: u64) {
-    io::write_all(STDOUT_FILENO, text);
-    io::print_decimal(STDOUT_FILENO, n);
+fn tell(rt: &impl Print, text: &str, n: u64) -> io::Result<()> {
+    print!(rt; "{text}{n}")
 }
 
-fn tell_command(command: Command) {
+fn tell_command(rt: &impl Print, command: Command) -> io::Result<()> {
     match command {
-        Command::Nop => say(b"NOP"),
+        Command::Nop => say(rt, "NOP"),
         Command::Act(bank, row) => {
-            tell(b"ACT bank ", bank.0 as u64);
-            tell(b" row ", row.0 as u64);
+            tell(rt, "ACT bank ", bank.0 as u64)?;
+            tell(rt, " row ", row.0 as u64)
         }
         Command::Read(bank, column) => {
-            tell(b"READ bank ", bank.0 as u64);
-            tell(b" column ", column.0 as u64);
+            tell(rt, "READ bank ", bank.0 as u64)?;
+            tell(rt, " column ", column.0 as u64)
         }
         Command::Wrt(bank, column, halfword) => {
-            tell(b"WRT bank ", bank.0 as u64);
-            tell(b" column ", column.0 as u64);
-            tell(b" halfword ", halfword as u64);
+            tell(rt, "WRT bank ", bank.0 as u64)?;
+            tell(rt, " column ", column.0 as u64)?;
+            tell(rt, " halfword ", halfword as u64)
         }
-        Command::Pre(bank) => tell(b"PRE bank ", bank.0 as u64),
-        Command::Deac => say(b"DEAC"),
-        Command::Refr => say(b"REFR"),
-        Command::Mrs(word) => tell(b"MRS word ", word as u64),
+        Command::Pre(bank) => tell(rt, "PRE bank ", bank.0 as u64),
+        Command::Deac => say(rt, "DEAC"),
+        Command::Refr => say(rt, "REFR"),
+        Command::Mrs(word) => tell(rt, "MRS word ", word as u64),
     }
 }
 
-fn tell_report(report: Report) {
+fn tell_report(rt: &impl Print, report: Report) -> io::Result<()> {
     match report {
-        Report::Nothing => say(b"\n"),
+        Report::Nothing => say(rt, "\n"),
         Report::Read(number, halfword) => {
-            tell(b", reports read ", number as u64);
-            tell(b" halfword ", halfword as u64);
-            say(b"\n");
+            tell(rt, ", reports read ", number as u64)?;
+            tell(rt, " halfword ", halfword as u64)?;
+            say(rt, "\n")
         }
         Report::Write(number) => {
-            tell(b", reports write ", number as u64);
-            say(b"\n");
+            tell(rt, ", reports write ", number as u64)?;
+            say(rt, "\n")
         }
     }
 }
@@ -103,28 +102,27 @@ fn is_read(command: Command) -> bool {
 }
 
 // The idle slots before slot t.
-fn tell_idle(t: u64, idle: u64) {
+fn tell_idle(rt: &impl Print, t: u64, idle: u64) -> io::Result<()> {
     if idle == 0 {
-        return;
+        return Ok(());
     }
     if t < idle {
-        return;
+        return Ok(());
     }
     if idle == 1 {
-        tell(b"slot ", t - idle);
-        say(b": NOP\n");
-        return;
+        tell(rt, "slot ", t - idle)?;
+        return say(rt, ": NOP\n");
     }
-    tell(b"slots ", t - idle);
-    tell(b" to ", t - 1);
-    say(b": NOP\n");
+    tell(rt, "slots ", t - idle)?;
+    tell(rt, " to ", t - 1)?;
+    say(rt, ": NOP\n")
 }
 
-fn tell_slot(t: u64, command: Command, report: Report) {
-    tell(b"slot ", t);
-    say(b": ");
-    tell_command(command);
-    tell_report(report);
+fn tell_slot(rt: &impl Print, t: u64, command: Command, report: Report) -> io::Result<()> {
+    tell(rt, "slot ", t)?;
+    say(rt, ": ")?;
+    tell_command(rt, command)?;
+    tell_report(rt, report)
 }
 
 // What an SDRAM has on the bus in slot t; the machine ignores the bus in all other slots.
@@ -143,7 +141,7 @@ fn due_after(t: u64, due: u64, command: Command) -> u64 {
 }
 
 // Slot t.
-fn step(before: Show, t: u64) -> Show {
+fn step(rt: &impl Print, before: Show, t: u64) -> io::Result<Show> {
     let m = before.machine;
     let slot = m.slot(bus(t, before.due));
     let machine = slot.machine;
@@ -151,65 +149,70 @@ fn step(before: Show, t: u64) -> Show {
     let report = slot.report;
     let due = due_after(t, before.due, command);
     if is_idle(command, report) {
-        return Show {
+        return Ok(Show {
             machine,
             idle: std::num::wrapping_add_u64(before.idle, 1),
             due,
-        };
+        });
     }
-    tell_idle(t, before.idle);
-    tell_slot(t, command, report);
-    Show {
+    tell_idle(rt, t, before.idle)?;
+    tell_slot(rt, t, command, report)?;
+    Ok(Show {
         machine,
         idle: 0,
         due,
-    }
+    })
 }
 
-fn run(start: Show) -> Show {
+fn run(rt: &impl Print, start: Show) -> io::Result<Show> {
     let mut show = start;
     let mut t = 1;
     while t <= SLOTS {
-        show = step(show, t);
+        show = step(rt, show, t)?;
         t += 1;
     }
-    show
+    Ok(show)
 }
 
 // E1's machine.
-fn configured() -> Machine {
+fn configured(rt: &impl Print) -> io::Result<Machine> {
     let answer = Machine::configure(0x4400, 0, 27, 0);
     tell(
-        b"CFG 0x4400, ROW 0, REF 27, TIM 0: answer ",
+        rt,
+        "CFG 0x4400, ROW 0, REF 27, TIM 0: answer ",
         answer.number as u64,
-    );
-    say(b"\n");
-    answer.machine
+    )?;
+    say(rt, "\n")?;
+    Ok(answer.machine)
 }
 
-fn after_write(m: Machine) -> Machine {
+fn after_write(rt: &impl Print, m: Machine) -> io::Result<Machine> {
     let answer = m.request(Kind::Write, 0, HALFWORD);
-    tell(b"write to address 0, halfword ", HALFWORD as u64);
-    tell(b": answer ", answer.number as u64);
-    tell(b", request ", answer.request as u64);
-    say(b"\n");
-    answer.machine
+    tell(rt, "write to address 0, halfword ", HALFWORD as u64)?;
+    tell(rt, ": answer ", answer.number as u64)?;
+    tell(rt, ", request ", answer.request as u64)?;
+    say(rt, "\n")?;
+    Ok(answer.machine)
 }
 
-fn after_read(m: Machine) -> Machine {
+fn after_read(rt: &impl Print, m: Machine) -> io::Result<Machine> {
     let answer = m.request(Kind::Read, 0, 0);
-    tell(b"read of address 0: answer ", answer.number as u64);
-    tell(b", request ", answer.request as u64);
-    say(b"\n");
-    answer.machine
+    tell(rt, "read of address 0: answer ", answer.number as u64)?;
+    tell(rt, ", request ", answer.request as u64)?;
+    say(rt, "\n")?;
+    Ok(answer.machine)
 }
 
-fn main() {
-    let machine = after_read(after_write(configured()));
-    let end = run(Show {
-        machine,
-        idle: 0,
-        due: 0,
-    });
-    tell_idle(SLOTS + 1, end.idle);
+fn main(rt: HostRuntime) -> io::Result<()> {
+    let written = after_write(&rt, configured(&rt)?)?;
+    let machine = after_read(&rt, written)?;
+    let end = run(
+        &rt,
+        Show {
+            machine,
+            idle: 0,
+            due: 0,
+        },
+    )?;
+    tell_idle(&rt, SLOTS + 1, end.idle)
 }
