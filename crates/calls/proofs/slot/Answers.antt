@@ -1,0 +1,6 @@
+use Rattle.calls.specs.Played.{slot_played, played_of}
+use Rattle.calls.proofs.slot.Goals as goal
+
+pub returns : goal.returns
+unfolding slot_played played_of
+returns c = simp (← c.slot-answer.ensures, ← c.line-text.ensures)
