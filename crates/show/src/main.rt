@@ -1,7 +1,7 @@
 // Writes the records of a tape of any length from standard input to standard output, one a line, as TAPES.md says.
 #![tactic(auto)]
 
-ghost use Rattle.std.specs.Prelude.{◌≤◌, length};
+ghost use Rattle.std.specs.Prelude.{◌+◌, ◌≤◌, length, IfOk};
 
 use answer::Answer;
 use output::{Out, at_most, fail, large_buffer, say};
@@ -197,6 +197,7 @@ fn broken(rt: &impl Eprint, before: Shown, why: io::Error) -> Shown {
 // Reads once, behind the bytes that wait.
 fn fetched(rt: &impl Input, input: &mut [u8], held: usize) -> io::Result<usize>
     requires { held ≤ length input.old }
+    ensures { IfOk result (λ got. held + got ≤ length input.old) }
 {
     rt.reader().read(&mut input[held..])
 }
