@@ -69,7 +69,7 @@ pub fn address_number(g: Geometry, address: u32) -> u8
 }
 
 // The cell of an address; of one beyond the device, which no accepted request has, that of its low bits.
-#[tactic(auto, using(crate::proofs::Laws::small, crate::proofs::Laws::cell_within), unfolding(crate::specs::Map::cell_of))]
+#[tactic(auto, unfolding(crate::specs::Map::cell_of))]
 pub fn cell_of(g: Geometry, address: u32) -> Cell
     requires { Shaped g }
     ensures { result ≡ cell_of g address }

@@ -38,7 +38,7 @@ fn apart(age: u8, other: u8, b: u8, distance: u8) -> bool
 }
 
 // R7.
-#[tactic(auto, using(device::proofs::Tests::passed, device::proofs::Tests::failed), unfolding(device::specs::Rules::R7))]
+#[tactic(auto, unfolding(device::specs::Rules::R7))]
 fn all_apart(c: Config, ages: &[u8; 16], b: u8) -> bool
     ensures { (opened : List Bool) (rows : List ℕ) (programmed : Bool) → result ≡ all_hold (R7 (by_ages c (past_of ages.now opened rows programmed)) b) }
 {
@@ -68,7 +68,6 @@ fn free(opened: bool, age: u8, distance: u8) -> bool
 }
 
 // R12 for a DEAC.
-#[tactic(auto, using(device::proofs::Tests::passed, device::proofs::Tests::failed))]
 fn all_active(c: Config, ages: &[u8; 16], opened: &[bool; 4]) -> bool
     ensures { (rows : List ℕ) (programmed : Bool) → result ≡ all_hold (R12-open (by_ages c (past_of ages.now opened.now rows programmed))) }
 {
@@ -88,7 +87,6 @@ fn all_active(c: Config, ages: &[u8; 16], opened: &[bool; 4]) -> bool
 }
 
 // R13 for a DEAC.
-#[tactic(auto, using(device::proofs::Tests::passed, device::proofs::Tests::failed))]
 fn all_written(c: Config, ages: &[u8; 16], opened: &[bool; 4]) -> bool
     ensures { (rows : List ℕ) (programmed : Bool) → result ≡ all_hold (R13-open (by_ages c (past_of ages.now opened.now rows programmed))) }
 {
@@ -108,7 +106,6 @@ fn all_written(c: Config, ages: &[u8; 16], opened: &[bool; 4]) -> bool
 }
 
 // R2, R14 and R15, which REFR and MRS have in common: all banks are closed, and long enough.
-#[tactic(auto, using(device::proofs::Tests::passed, device::proofs::Tests::failed, crate::proofs::Hold::precharged_is))]
 fn all_precharged(c: Config, ages: &[u8; 16], opened: &[bool; 4]) -> bool
     ensures { (rows : List ℕ) (programmed : Bool) → result ≡ precharged_of (by_ages c (past_of ages.now opened.now rows programmed)) }
 {
@@ -221,7 +218,6 @@ pub fn read_legal(
 }
 
 // WRT: READ's rules and R10. The halfword doesn't matter.
-#[tactic(auto, using(device::proofs::Tests::failed, crate::proofs::Hold::wrt_is))]
 pub fn wrt_legal(c: Config, ages: &[u8; 16], opened: &[bool; 4], bank: Bank, column: Column) -> bool
     requires { Shaped c.geometry }
     ensures { Verdict c ages.now opened.now (Command.Wrt bank column 0) result }
@@ -258,7 +254,6 @@ pub fn pre_legal(c: Config, ages: &[u8; 16], opened: &[bool; 4], bank: Bank) -> 
 }
 
 // DEAC: R2, R12, R13.
-#[tactic(auto, using(device::proofs::Tests::passed, device::proofs::Tests::failed, crate::proofs::Hold::deac_is))]
 pub fn deac_legal(c: Config, ages: &[u8; 16], opened: &[bool; 4]) -> bool
     ensures { Verdict c ages.now opened.now Command.Deac result }
 {

@@ -1,7 +1,6 @@
 -- ACT's rules in order: each test taken or left settles one.
 use Rattle.std.proofs.Common.{sym, ◌∙◌}
-use borrow.Author.Tests.{le-leb, lt-leb, not-false, not-true}
-use Rattle.device.specs.Rules.{R7}
+use borrow.Author.Tests.{le-leb, lt-leb}
 use Rattle.device.proofs.Alike.{in_four}
 use Rattle.ages.proofs.Record.{open_here}
 use Rattle.device.proofs.Tests.{true_and}

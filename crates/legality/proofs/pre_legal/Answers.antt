@@ -1,6 +1,6 @@
 -- PRE's rules in order: each test taken or left settles one.
 use Rattle.std.proofs.Common.{sym, ◌∙◌}
-use borrow.Author.Tests.{le-leb, lt-leb, not-false, not-true}
+use borrow.Author.Tests.{le-leb, lt-leb}
 use Rattle.device.proofs.Alike.{in_four}
 use Rattle.ages.proofs.Record.{open_here}
 use Rattle.legality.proofs.Hold.{pre_is}

@@ -1,6 +1,5 @@
 -- WRT's rules are READ's and then R10.
 use Rattle.std.proofs.Common.{sym, ◌∙◌}
-use borrow.Author.Tests.{not-false}
 use Rattle.legality.proofs.Hold.{wrt_is}
 use Rattle.legality.proofs.wrt_legal.Goals as goal
 
