@@ -17,7 +17,6 @@ use Rattle.packing.specs.Packing.{
   word_of as fields_of,
 }
 use Rattle.answer.specs.declared.Answer.{Answer}
-use Rattle.answer.specs.declared.Answer.TheVariants as Answer
 use Rattle.answer.specs.Output.{
   and_word,
   and_number,

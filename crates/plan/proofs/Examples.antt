@@ -1,6 +1,6 @@
 -- Worked examples by computation, over the plain SDRAM's own history: the choice; accesses and refreshes, slot by slot; the initialisation of
 -- document 01's E1 machine, whose slots are E5's.
-use Prim.Native.Nat.{ℕ, zero, suc, ◌-◌}
+use Prim.Native.Nat.{ℕ, zero, suc}
 use mathlib.Core.Path.{◌≡◌, refl}
 use mathlib.Core.Bool.{Bool, true, false, cond}
 use mathlib.Core.List.{List, [], ◌∷◌, ◌++◌, map}

@@ -12,7 +12,7 @@ use Rattle.config.specs.Accepted.{Accepted}
 use Rattle.address.specs.declared.Row.{Row}
 use Rattle.address.specs.declared.Cell.{Cell}
 use Rattle.address.proofs.Laws.{cell_within}
-use Rattle.command.specs.declared.Command.TheVariants.{Nop, Act, Read, Pre, Deac}
+use Rattle.command.specs.declared.Command.TheVariants.{Nop, Act, Pre, Deac}
 use Rattle.device.specs.View.{mode_register, refresh_cycle, marks_of, all_closed}
 use Rattle.device.proofs.Tests.{if_both}
 use Rattle.ages.specs.declared.Past.{Past}

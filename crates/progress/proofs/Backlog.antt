@@ -51,7 +51,6 @@ use Rattle.sequencer.specs.declared.Machine.{Machine}
 use Rattle.sequencer.specs.Machine.{step_of}
 use Rattle.sequencer.specs.Calls.{record_number_of, slot_of}
 use Rattle.sequencer.proofs.Sound.{step_serves}
-use Rattle.model.specs.World.{backlog}
 use Rattle.theorem.proofs.Invariant.{refr_held, refresh_held}
 use Rattle.theorem.proofs.Plans.{counters_of, chosen_of, acted_of, after_of, step_is}
 use Rattle.progress.specs.Progress.{

@@ -1,5 +1,5 @@
 -- What a recording's calls put behind the bytes that wait in the buffer.
-use Rattle.std.specs.Prelude.{ℕ, ◌≤◌, true, false, ◌≡◌, List, [], ◌++◌, length, take}
+use Rattle.std.specs.Prelude.{ℕ, ◌≤◌, true, ◌≡◌, List, ◌++◌, length, take}
 use Rattle.output.specs.declared.Out.{Out}
 use Rattle.output.specs.Waiting.{kept_of}
 use Rattle.tape.specs.Writing.{run_bytes, piece_of}

@@ -5,7 +5,6 @@ use mathlib.Core.Bool.{true}
 use native.Mathlib.Omega.{arith}
 use Rattle.config.specs.declared.Config.{Config}
 use Rattle.config.specs.Accepted.{Accepted}
-use Rattle.config.proofs.Laws.{accepted}
 use Rattle.queue.specs.declared.Kind.{Kind}
 use Rattle.queue.specs.Places.{empty_of}
 use Rattle.refresh.proofs.Counts.{bounded_start}
