@@ -1,5 +1,4 @@
 -- The invariant: the slots that are left give of everything as it is what all slots give of it as it was at first; and no array has changed its length.
-use Prim.Native.Nat.{◌-◌}
 use native.Mathlib.Omega.{arith}
 use native.Mathlib.Numerals.{add-one}
 use mathlib.Core.Path.{◌∙◌}

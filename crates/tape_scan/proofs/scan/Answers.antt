@@ -1,5 +1,5 @@
 -- The invariant: the slots so far and the rest of the tape give what the whole tape gives. Every record that is read takes the reader on.
-use Rattle.std.proofs.Common.{◌≡◌, ℕ, length, ◌+◌, ◌-◌, ◌%◌, ◌^◌, sym, ap, ◌∙◌, mod-lt, arith}
+use Rattle.std.proofs.Common.{◌≡◌, ℕ, length, ◌+◌, ◌%◌, ◌^◌, sym, ap, ◌∙◌, mod-lt, arith}
 use Rattle.tape.specs.Reading.{slots_of}
 use Rattle.tape_decoder.specs.Decoder.{step_in}
 use Rattle.tape_scan.proofs.Scans.{onward, counted, over}

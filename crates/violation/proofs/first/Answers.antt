@@ -1,6 +1,5 @@
 -- Both loops keep: what is left of the rules and banks gives what all of them give, and nothing was found so far.
 use Rattle.std.proofs.Common.{sym, ◌∙◌}
-use Prim.Native.Nat.{◌-◌}
 use mathlib.Core.Path.{◌∙◌}
 use native.Mathlib.Omega.{arith}
 use native.Mathlib.Numerals.{add-one}
