@@ -1,4 +1,4 @@
-/* The judge for bus tapes, for a host in C99 or C++. Link with the archive that `rt staticlib judge_c` writes, target/staticlib/libjudge_c.a (x86-64);
+/* The judge for bus tapes, for a host in C99 or C++. Link with the archive that `rt lib` in crates/judge_c writes, crates/judge_c/out/libjudge_c.a (x86-64);
    host/Makefile shows how. docs/TAPES.md has the format of tapes.
 
        uint64_t answer = girmutsab_judge(cfg, row, ref, tim, tape, length);
