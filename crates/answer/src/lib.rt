@@ -32,7 +32,7 @@ use standalone::{ToAddress, ToCell};
 use text::Text;
 
 // The answer to one line of a script, or what is said of one record of a tape. A call's answer has a number of document 01's table first.
-#[derive(Drop)]
+#[derive(Clone, Copy)]
 pub enum Answer {
     Config(u8),
     // And the request's number.

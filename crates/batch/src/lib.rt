@@ -14,7 +14,7 @@ use plan::Action;
 use refresh::Counters;
 
 // What slots give beside what they change in place: the machine's other parts after them.
-#[derive(Drop)]
+#[derive(Clone, Copy)]
 pub struct Ended {
     pub action: Action,
     pub counters: Counters,

@@ -21,7 +21,7 @@ use sequencer::Machine;
 use text::Text;
 
 // The machine after a call, and what is written for the call.
-#[derive(Drop)]
+#[derive(Clone, Copy)]
 pub struct Played {
     pub machine: Machine,
     pub text: Text,

@@ -32,7 +32,7 @@ pub struct Config {
 }
 
 // A number of document 01's table and, where it is 0, the configuration; all zeros where it is not.
-#[derive(Drop)]
+#[derive(Clone, Copy)]
 pub struct Setting {
     pub number: u8,
     pub config: Config,

@@ -15,7 +15,7 @@ use tape::Item;
 use tape_cursor::Cursor;
 
 // What is said of a tape: a number of documents 01 and 02, and where it is 0 the first illegal slot, counted from 1, with its rule and bank; all 0 where every slot is legal.
-#[derive(Drop)]
+#[derive(Clone, Copy)]
 pub struct Verdict {
     pub number: u8,
     pub slot: u64,

@@ -14,7 +14,7 @@ use script::{Call, Line, NUMBERS};
 use sequencer::Machine;
 
 // What is written.
-#[derive(Drop)]
+#[derive(Clone, Copy)]
 pub enum Mode {
     Lines,
     Tape,

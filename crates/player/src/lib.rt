@@ -10,7 +10,7 @@ use std::io;
 use std::io::Read;
 
 // A line, as far as it has been read, and the place in the input where its line feed is, or the input's end.
-#[derive(Drop)]
+#[derive(Clone, Copy)]
 struct Scanned {
     line: Line,
     at: usize,

@@ -33,7 +33,7 @@ pub struct Queue {
 }
 
 // A place of the queue, or none.
-#[derive(Drop)]
+#[derive(Clone, Copy)]
 pub enum Found {
     At(u16),
     Nothing,

@@ -7,7 +7,7 @@ ghost use Rattle.recording.specs.Recording.{Lent, Added, Ended};
 use output::{Out, at_most, with_room};
 use tape_writer::{extend, finish};
 
-#[derive(Drop)]
+#[derive(Clone, Copy)]
 pub struct Tape {
     pub out: Out,
     // How many NOPs at the end of the slots so far still wait for their record.

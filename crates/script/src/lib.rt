@@ -31,7 +31,7 @@ use address::{Bank, Cell, Column, Row};
 use number::{NONE, Number};
 
 // One line of a script.
-#[derive(Drop)]
+#[derive(Clone, Copy)]
 pub enum Call {
     // An empty line or a comment.
     Nothing,

@@ -38,14 +38,14 @@ pub struct Machine {
 }
 
 // A number of document 01's table, and the machine that a configuration gives: the blank one where the number is not 0.
-#[derive(Drop)]
+#[derive(Clone, Copy)]
 pub struct Configured {
     pub number: u8,
     pub machine: Machine,
 }
 
 // A number of the table, the request's own number (0 where it is refused), and the machine after it.
-#[derive(Drop)]
+#[derive(Clone, Copy)]
 pub struct Requested {
     pub machine: Machine,
     pub number: u8,
@@ -53,7 +53,7 @@ pub struct Requested {
 }
 
 // A number of the table, the slot's command and report, and the machine after it.
-#[derive(Drop)]
+#[derive(Clone, Copy)]
 pub struct Slot {
     pub machine: Machine,
     pub number: u8,
@@ -62,7 +62,7 @@ pub struct Slot {
 }
 
 // A number of the table, how many slots were run, and the machine after them.
-#[derive(Drop)]
+#[derive(Clone, Copy)]
 pub struct Slots {
     pub machine: Machine,
     pub number: u8,
@@ -70,7 +70,7 @@ pub struct Slots {
 }
 
 // A number of the table, and the backlog.
-#[derive(Drop)]
+#[derive(Clone, Copy)]
 pub struct Reading {
     pub number: u8,
     pub backlog: u8,

@@ -34,7 +34,7 @@ use queue::{Kind, Request};
 use refresh::Counters;
 
 // A plan carried out: the slot's command, the next action, the report, whether the request under way leaves the queue, and whether the backlog falls.
-#[derive(Drop)]
+#[derive(Clone, Copy)]
 pub struct Carried {
     pub command: Command,
     pub action: Action,

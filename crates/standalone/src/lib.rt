@@ -10,13 +10,13 @@ use address::{Bank, Cell, Column, Row};
 use config::Geometry;
 
 // The standalone map's answers: a number of document 01's table, and what was asked for where it is 0; zeros where it is not.
-#[derive(Drop)]
+#[derive(Clone, Copy)]
 pub struct ToCell {
     pub number: u8,
     pub cell: Cell,
 }
 
-#[derive(Drop)]
+#[derive(Clone, Copy)]
 pub struct ToAddress {
     pub number: u8,
     pub address: u32,

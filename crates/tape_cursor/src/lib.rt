@@ -11,7 +11,7 @@ use config::Config;
 use tape_decoder::pair_at;
 
 // Where a judge stands on a tape: its place there, the count of the run just before it, else 0, the clock in the next slot, and whether it goes on.
-#[derive(Drop)]
+#[derive(Clone, Copy)]
 pub struct Cursor {
     pub at: usize,
     pub before: u16,

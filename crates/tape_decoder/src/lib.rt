@@ -11,7 +11,7 @@ use command::Command;
 use tape::{Item, Refusal};
 
 // What is read at a place, and afterwards the place and the count of the run just before it, else 0.
-#[derive(Drop)]
+#[derive(Clone, Copy)]
 pub struct Found {
     pub item: Item,
     pub at: usize,

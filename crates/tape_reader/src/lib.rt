@@ -9,7 +9,7 @@ use tape::Item;
 use tape_decoder::read_at;
 
 // A lent tape, the place of the next record, and the count of the run read just before, else 0. Any place and any count may stand here.
-#[derive(Drop)]
+#[derive(Clone, Copy)]
 pub struct Reader<'a> {
     pub tape: &'a [u8],
     pub at: usize,

@@ -8,7 +8,7 @@ ghost use Rattle.tape_scan.specs.Scan.{stopped_of, scanned_of};
 use tape::{Item, Refusal};
 
 // A number of document 02's table, or 0 where the tape was read to its end; the first place of the refused record, or 0; and the slots before that, modulo 2^64.
-#[derive(Drop)]
+#[derive(Clone, Copy)]
 pub struct Scanned {
     pub number: u8,
     pub place: usize,

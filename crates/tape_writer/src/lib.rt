@@ -19,14 +19,14 @@ use packing::packs_command;
 use tape_encoder::{pending_after, put_run, put_slot, run_length, slot_length};
 
 // A number of the table, and the length of what was written: 0 if refused.
-#[derive(Drop)]
+#[derive(Clone, Copy)]
 pub struct Written {
     pub number: u8,
     pub length: usize,
 }
 
 // The same of a piece, and how many NOPs at its end still wait for their record.
-#[derive(Drop)]
+#[derive(Clone, Copy)]
 pub struct Extended {
     pub number: u8,
     pub length: usize,
@@ -34,7 +34,7 @@ pub struct Extended {
 }
 
 // What the first pass finds.
-#[derive(Drop)]
+#[derive(Clone, Copy)]
 struct Measured {
     packs: bool,
     length: usize,

@@ -5,7 +5,7 @@ ghost use Rattle.std.specs.Prelude.{◌≡◌, ◌+◌, ◌≤◌, ◌<◌};
 ghost use Rattle.text.specs.Spelling.{empty_of, byte_of, spelled_of, word_of, decimal_of};
 
 // The text is the first `count` bytes. It has room for 64; what comes after them is dropped.
-#[derive(Drop)]
+#[derive(Clone, Copy)]
 pub struct Text {
     pub bytes: [u8; 64],
     pub count: usize,

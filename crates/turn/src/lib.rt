@@ -18,7 +18,7 @@ use plan::{Action, Report};
 use refresh::Counters;
 
 // What a slot gives, beside what it changes in place: its command and report, and the machine's other parts after it.
-#[derive(Drop)]
+#[derive(Clone, Copy)]
 pub struct Turned {
     pub command: Command,
     pub report: Report,

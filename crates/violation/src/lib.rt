@@ -14,7 +14,7 @@ use command::Command;
 use config::Config;
 
 // A broken rule, and the bank that is named for it; 0 and 0 for a legal command.
-#[derive(Drop)]
+#[derive(Clone, Copy)]
 pub struct Violation {
     pub rule: u8,
     pub bank: u8,
