@@ -1,7 +1,7 @@
 // Owns a program's output: bytes that wait in a lent buffer, and are written to standard output before they fill it.
 #![tactic(auto)]
 
-ghost use Rattle.std.specs.Prelude.{◌≤◌, ◌≡◌, false, length};
+ghost use Rattle.std.specs.Prelude.{◌≤◌, ◌≡◌, true, false, length};
 ghost use Rattle.output.specs.Waiting.{Limited, Emptied, Roomy};
 
 use std::io;
@@ -64,9 +64,12 @@ pub fn put(output: &mut [u8], waiting: usize, text: Text) -> usize
     at
 }
 
-// Says on standard error what failed, and why.
-pub fn fail(rt: &impl Eprint, what: &str, why: io::Error) {
+// Says on standard error what failed, and why. The answer is what `Out.failed` is from then on.
+pub fn fail(rt: &impl Eprint, what: &str, why: io::Error) -> bool
+    ensures { result ≡ true }
+{
     let _ = eprintln!(rt; "{what}: {why}");
+    true
 }
 
 // Writes the bytes that wait, and answers whether that failed.
@@ -75,10 +78,7 @@ fn flush(rt: &(impl Print + Eprint), output: &[u8], waiting: usize) -> bool
 {
     match rt.write_all(&output[..waiting]) {
         Ok(()) => false,
-        Err(why) => {
-            fail(rt, "write", why);
-            true
-        }
+        Err(why) => fail(rt, "write", why),
     }
 }
 

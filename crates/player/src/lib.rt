@@ -65,11 +65,11 @@ fn play_all(
 
 // Nothing more can be read: the line under way is not played.
 fn broken(rt: &impl Eprint, run: Run, why: io::Error) -> Run {
-    fail(rt, "read", why);
+    let failed = fail(rt, "read", why);
     let said = run.out;
     let out = Out {
         waiting: said.waiting,
-        failed: true,
+        failed,
     };
     let mut after = run;
     after.out = out;
