@@ -1,5 +1,6 @@
 -- What the sequencer keeps of the past, and what the rules see of it. An age is in slots, as the next slot sees it.
 use Rattle.std.specs.Prelude.{ℕ, ◌+◌, Bool, true, false, cond, List, [], ◌∷◌, leb, ltb, get_or, replicate}
+use Rattle.std.specs.Prelude.{Option as Answer, Some, None}
 use Rattle.std.proofs.Math.Option.{Option, none, some}
 use Rattle.address.specs.declared.Row.{Row}
 use Rattle.config.specs.declared.Config.{Config}
@@ -63,6 +64,11 @@ open_rows opened rows b = cond (open_in opened b) (some (row_in rows b)) none
 
 abbrev pub row_at : Past → ℕ → Option Row
 row_at p = open_rows p.opened p.rows
+
+-- the open row as the code answers it
+abbrev pub row_as : Answer Row → Option Row
+row_as None = none
+row_as (Some r) = some r
 
 -- the view of the past by ages
 abbrev pub by_ages : Config → Past → View

@@ -4,7 +4,7 @@
 
 ghost use Rattle.std.specs.Prelude.{ℕ, ◌≡◌, List};
 ghost use Rattle.device.specs.View.{all_closed};
-ghost use Rattle.ages.specs.Ages.{fresh_of, open_in, row_in, open_rows};
+ghost use Rattle.ages.specs.Ages.{fresh_of, open_in, row_in, open_rows, row_at, row_as};
 
 use address::{Bank, Row};
 
@@ -13,7 +13,7 @@ pub const CAP: u8 = 32;
 
 // What is kept of the past commands. An age is in slots, as the next slot sees it: 1 after the command's own slot, 32 at most, and 32 if
 // there was none. The ages: ACT of each bank; its PRE or any DEAC; REFR, MRS, any PRE or DEAC, READ; WRT to each bank (docs/PERFORMANCE.md: the order
-// counts). They, the flags and the rows are arrays of numbers and bools, which can be lent, so that a slot changes them in place.
+// counts). The past is lent, and a slot changes it in place.
 #[derive(Clone, Copy)]
 pub struct Past {
     pub ages: [u8; 16],
@@ -24,56 +24,69 @@ pub struct Past {
     pub programmed: bool,
 }
 
-// The past before any command was sent.
-#[tactic(auto, unfolding(crate::specs::Ages::fresh_of))]
-pub fn fresh() -> Past
-    ensures { result ≡ fresh_of }
-{
-    Past {
-        ages: [CAP; 16],
-        opened: [false; 4],
-        rows: [0; 4],
-        programmed: false,
+impl Past {
+    // The past before any command was sent.
+    #[tactic(auto, unfolding(crate::specs::Ages::fresh_of))]
+    pub fn fresh() -> Past
+        ensures { result ≡ fresh_of }
+    {
+        Past {
+            ages: [CAP; 16],
+            opened: [false; 4],
+            rows: [0; 4],
+            programmed: false,
+        }
     }
-}
 
-// Is a bank open? One that a device cannot have is closed.
-#[tactic(auto, unfolding(crate::specs::Ages::open_in))]
-pub fn is_open(opened: &[bool; 4], bank: Bank) -> bool
-    ensures { result ≡ open_in opened.now bank.0 }
-{
-    let b = bank.0 as usize;
-    if b < 4 {
-        return opened[b];
+    // Is a bank open? One that a device cannot have is closed.
+    #[tactic(auto, unfolding(crate::specs::Ages::open_in))]
+    pub fn is_open(&self, bank: Bank) -> bool
+        ensures { result ≡ open_in self.now.opened bank.0 }
+    {
+        let b = bank.0 as usize;
+        if b < 4 {
+            return self.opened[b];
+        }
+        false
     }
-    false
-}
 
-// The row that was opened last in a bank, row 0 in one that a device cannot have.
-#[tactic(auto, unfolding(crate::specs::Ages::row_in))]
-pub fn row_in(rows: &[u16; 4], bank: Bank) -> Row
-    ensures { result ≡ row_in rows.now bank.0 }
-{
-    let b = bank.0 as usize;
-    if 4 <= b {
-        return Row(0);
+    // The row that was opened last in a bank, row 0 in one that a device cannot have.
+    #[tactic(auto, unfolding(crate::specs::Ages::row_in))]
+    pub fn row_in(&self, bank: Bank) -> Row
+        ensures { result ≡ row_in self.now.rows bank.0 }
+    {
+        let b = bank.0 as usize;
+        if 4 <= b {
+            return Row(0);
+        }
+        Row(self.rows[b])
     }
-    Row(rows[b])
-}
 
-// Are all banks closed, whatever rows were opened last?
-#[tactic(auto, using(crate::proofs::Record::closed_is))]
-pub fn all_closed(opened: &[bool; 4]) -> bool
-    ensures { (rows : List ℕ) → result ≡ all_closed (open_rows opened.now rows) }
-{
-    if opened[0] {
-        return false;
+    // The open row of a bank.
+    #[tactic(auto, unfolding(crate::specs::Ages::open_rows))]
+    pub fn open_row(&self, bank: Bank) -> Option<Row>
+        ensures { row_as result ≡ row_at self.now bank.0 }
+    {
+        if self.is_open(bank) {
+            return Some(self.row_in(bank));
+        }
+        None
     }
-    if opened[1] {
-        return false;
+
+    // Are all banks closed, whatever rows were opened last?
+    #[tactic(auto, using(crate::proofs::Record::closed_is))]
+    pub fn all_closed(&self) -> bool
+        ensures { (rows : List ℕ) → result ≡ all_closed (open_rows self.now.opened rows) }
+    {
+        if self.opened[0] {
+            return false;
+        }
+        if self.opened[1] {
+            return false;
+        }
+        if self.opened[2] {
+            return false;
+        }
+        !self.opened[3]
     }
-    if opened[2] {
-        return false;
-    }
-    !opened[3]
 }
