@@ -1,7 +1,6 @@
 -- How the code goes through the rules. Nothing here has to be believed: the proof of `choose` shows that it is `rules_of`, and `current_is` of
 -- proofs/Laws.antt that a slot's action and Must run are those of `plan`.
-use Rattle.std.specs.Prelude.{ℕ, Bool, cond}
-use Rattle.queue.specs.declared.Found.{Found}
+use Rattle.std.specs.Prelude.{ℕ, Bool, cond, Option}
 use Rattle.queue.specs.declared.Kind.TheVariants.{Read, Write}
 use Rattle.queue.specs.declared.Queue.{Queue}
 use Rattle.queue.specs.Places.{held_of}
@@ -17,7 +16,7 @@ use Rattle.plan.specs.Choice.{access_or, needs, idle_refresh, rules_of}
 unfoldable pub from_rule5 : Level → Bool → Action
 from_rule5 level closed = cond (idle_refresh level closed) PrechargeAll Idle
 
-unfoldable pub from_rule3 : Level → Found → Bool → Action
+unfoldable pub from_rule3 : Level → Option ℕ → Bool → Action
 from_rule3 level write closed = cond (needs level) PrechargeAll (access_or write (from_rule5 level closed))
 
 -- a slot's Must run, and its action, where the Must run is `run`

@@ -6,6 +6,7 @@ use mathlib.Core.Bool.{Bool, true, false, cond}
 use mathlib.Core.List.{List, [], ◌∷◌, ◌++◌, map}
 use mathlib.Core.Option.{Option, some, none as nothing}
 use lib.ListN.{length, replicate}
+use Rattle.std.specs.Prelude.{Option as StdOption, Some, None}
 use Rattle.config.specs.declared.Config.{Config}
 use Rattle.config.specs.declared.Geometry.{Geometry}
 use Rattle.address.specs.Map.{cell_at, cell_of, address_of}
@@ -16,8 +17,6 @@ use Rattle.device.specs.View.{marks_of, row_of, all_closed}
 use Rattle.device.specs.Rules.{R7, R12-open, R13-open, R14, R16, requirements, legal_of, carried_of}
 use Rattle.device.specs.History.{Log, last, open_row, start_log, by_history, fed}
 use Rattle.queue.specs.declared.Kind.{Kind}
-use Rattle.queue.specs.declared.Found.{Found}
-use Rattle.queue.specs.declared.Found.TheVariants.{At}
 use Rattle.queue.specs.declared.Request.{Request}
 use Rattle.queue.specs.declared.Queue.{Queue}
 use Rattle.queue.specs.Places.{request_for, kind_in, request_in, request_at, held_of, empty_of, stored_of, accept_of, shifted_of, remove_of, get_of}
@@ -72,36 +71,36 @@ use Rattle.plan.specs.Completion.{Completion, read_done, write_done, completion_
 record Row : Type 0 where
   running : Bool
   backlog : ℕ
-  read : Found
-  write : Found
+  read : StdOption ℕ
+  write : StdOption ℕ
   closed : Bool
   chosen : Action
 
-abbrev choice : Bool → ℕ → Found → Found → Bool → Action → Row
+abbrev choice : Bool → ℕ → StdOption ℕ → StdOption ℕ → Bool → Action → Row
 choice running b r w closed a = record { running = running; backlog = b; read = r; write = w; closed = closed; chosen = a }
 
-none : Found
-none = Found.Nothing
+none : StdOption ℕ
+none = None
 
 choices : List Row
 choices =
     -- rule 1: before reads, from 12 on, and in a run down to 8
-    choice false 12 (At 2) (At 0) false PrechargeAll
+    choice false 12 (Some 2) (Some 0) false PrechargeAll
     ∷ choice false 15 none none true PrechargeAll
-    ∷ choice true 11 (At 2) (At 0) false PrechargeAll
-    ∷ choice true 8 (At 2) none true PrechargeAll
+    ∷ choice true 11 (Some 2) (Some 0) false PrechargeAll
+    ∷ choice true 8 (Some 2) none true PrechargeAll
     -- 7 ends the run, and that choice goes on with rule 2
-    ∷ choice true 7 (At 2) (At 0) true (Access 2)
+    ∷ choice true 7 (Some 2) (Some 0) true (Access 2)
     ∷ choice true 7 none none false PrechargeAll
     -- rule 2 before rule 3
-    ∷ choice false 11 (At 2) (At 0) false (Access 2)
-    ∷ choice false 8 (At 0) none true (Access 0)
+    ∷ choice false 11 (Some 2) (Some 0) false (Access 2)
+    ∷ choice false 8 (Some 0) none true (Access 0)
     -- rule 3 before rule 4; a blocked read is no read here
-    ∷ choice false 11 none (At 0) false PrechargeAll
-    ∷ choice false 8 none (At 0) true PrechargeAll
+    ∷ choice false 11 none (Some 0) false PrechargeAll
+    ∷ choice false 8 none (Some 0) true PrechargeAll
     -- rule 4 before rule 5
-    ∷ choice false 7 none (At 1) true (Access 1)
-    ∷ choice false 1 none (At 0) true (Access 0)
+    ∷ choice false 7 none (Some 1) true (Access 1)
+    ∷ choice false 1 none (Some 0) true (Access 0)
     -- rule 5: 4 to 7, banks open or closed
     ∷ choice false 7 none none false PrechargeAll
     ∷ choice false 4 none none false PrechargeAll
@@ -112,7 +111,7 @@ choices =
     ∷ choice false 1 none none false Idle
     -- rule 6
     ∷ choice false 0 none none true Idle
-    ∷ choice false 0 none (At 3) false (Access 3)
+    ∷ choice false 0 none (Some 3) false (Access 3)
     ∷ []
 
 made : Row → Row

@@ -1,7 +1,5 @@
 -- The choice of an action, rules 1 to 6 (document 01, "A service slot").
-use Rattle.std.specs.Prelude.{ℕ, Bool, true, false, cond}
-use Rattle.queue.specs.declared.Found.{Found}
-use Rattle.queue.specs.declared.Found.TheVariants.{At, Nothing}
+use Rattle.std.specs.Prelude.{ℕ, Bool, true, false, cond, Option, Some, None}
 use Rattle.queue.specs.declared.Kind.TheVariants.{Read, Write}
 use Rattle.queue.specs.declared.Queue.{Queue}
 use Rattle.queue.specs.Places.{held_of}
@@ -20,9 +18,9 @@ pub record Choice : Type 0 where
   pub queue : Queue
 
 -- the request found, if there is one; else what a later rule chooses
-abbrev pub access_or : Found → Action → Action
-access_or (At i) later = Access i
-access_or Nothing later = later
+abbrev pub access_or : Option ℕ → Action → Action
+access_or (Some i) later = Access i
+access_or None later = later
 
 -- rule 3
 abbrev pub needs : Level → Bool
@@ -41,7 +39,7 @@ idle_refresh Need closed = false
 idle_refresh Must closed = false
 
 -- Rules 1 to 6, the first that applies, with the Must run flag as of this choice.
-unfoldable pub rules_of : Bool → Level → Found → Found → Bool → Action
+unfoldable pub rules_of : Bool → Level → Option ℕ → Option ℕ → Bool → Action
 rules_of run level read write closed =
     -- 1: a Must run is on, as it is from backlog 12 on
     cond run PrechargeAll

@@ -11,6 +11,7 @@ use native.Mathlib.Decide.{ℕ_discrete, dec_le}
 use lib.Dec.{eqb}
 use lib.ListN.{length}
 use borrow.Author.Tests.{eq-eqb, ne_eqb}
+use Rattle.std.specs.Prelude.{None}
 use Rattle.config.specs.declared.Config.{Config}
 use Rattle.config.specs.Accepted.{Accepted}
 use Rattle.device.specs.View.{all_closed}
@@ -18,7 +19,6 @@ use Rattle.device.proofs.Tests.{by_test, if_both}
 use Rattle.ages.specs.declared.Past.{Past}
 use Rattle.ages.specs.Ages.{row_at}
 use Rattle.queue.specs.Places.{get_of}
-use Rattle.queue.specs.declared.Found.TheVariants.{Nothing}
 use Rattle.refresh.specs.declared.Counters.{Counters}
 use Rattle.refresh.specs.declared.Level.{Level}
 use Rattle.refresh.specs.declared.Level.TheVariants.{Clear, May, Release, Need, Must}
@@ -313,7 +313,7 @@ module _ (c : Config) where
 -- from any record
 
 rule_due : (p : Past) (a : Action) (must closed : Bool) (l : Level) (b : ℕ) → Within l b → all_closed (row_at p) ≡ closed
-    → refresh_chosen (rules_of (run_of must l) l Nothing Nothing closed) ≡ true → Due p a b
+    → refresh_chosen (rules_of (run_of must l) l None None closed) ≡ true → Due p a b
 unfolding rules_of
 rule_due p a must closed Clear b w e h = absurd (false≢true h)
 rule_due p a must true May b w e h = every_bank_closed e
@@ -328,7 +328,7 @@ resting_due m h =
     (λ e. under e)
     (λ e.
     let level = level_of m.counters.backlog in
-    let chosen = refresh_chosen (rules_of (run_of m.control.must level) level Nothing Nothing (all_closed (row_at m.past))) in
+    let chosen = refresh_chosen (rules_of (run_of m.control.must level) level None None (all_closed (row_at m.past))) in
     rule_due m.past m.control.action m.control.must (all_closed (row_at m.past)) level m.counters.backlog (level_in m.counters.backlog) refl
     (sym (or_false chosen) ∙ rw e at h))
   where

@@ -1,11 +1,10 @@
 -- What keeps a terminal going, since nobody can get to one that has stopped (the tender, condition 1). It holds of all records, whether calls made them
 -- or not; number 0 says that a record is configured and sound.
-use Rattle.std.specs.Prelude.{ℕ, ◌+◌, ◌-◌, ◌*◌, ◌≤◌, max, ◌≡◌, Bool, true, false, ◌||◌, List, [], ◌∷◌, eqb, length}
+use Rattle.std.specs.Prelude.{ℕ, ◌+◌, ◌-◌, ◌*◌, ◌≤◌, max, ◌≡◌, Bool, true, false, ◌||◌, List, [], ◌∷◌, eqb, length, None}
 use Rattle.config.specs.declared.Config.{Config}
 use Rattle.device.specs.View.{all_closed}
 use Rattle.ages.specs.Ages.{row_at}
 use Rattle.queue.specs.declared.Kind.{Kind}
-use Rattle.queue.specs.declared.Found.TheVariants.{Nothing}
 use Rattle.refresh.specs.declared.Level.{Level}
 use Rattle.refresh.specs.Urgency.{level_of, run_of}
 use Rattle.plan.specs.declared.Action.{Action}
@@ -79,7 +78,7 @@ refresh_chosen (RefreshCycle left) = false
 abbrev pub refreshed_next : Machine → Bool
 refreshed_next m =
     let level : Level = level_of m.counters.backlog in
-    refresh_chosen (rules_of (run_of m.control.must level) level Nothing Nothing (all_closed (row_at m.past))) || refresh_chosen m.control.action
+    refresh_chosen (rules_of (run_of m.control.must level) level None None (all_closed (row_at m.past))) || refresh_chosen m.control.action
 
 -- is the backlog 0 now, or after one of the slots with these halfwords on the bus?
 abbrev pub works_off : Machine → List ℕ → Bool

@@ -6,10 +6,9 @@ use mathlib.Core.List.{List, [], ◌∷◌, ◌++◌, map}
 use native.Mathlib.Omega.{arith}
 use lib.Dec.{eqb}
 use lib.ListN.{replicate}
+use Rattle.std.specs.Prelude.{Option, Some, None}
 use Rattle.queue.specs.declared.Kind.{Kind}
 use Rattle.queue.specs.declared.Kind.TheVariants.{Read, Write}
-use Rattle.queue.specs.declared.Found.{Found}
-use Rattle.queue.specs.declared.Found.TheVariants.{At, Nothing}
 use Rattle.queue.specs.declared.Request.{Request}
 use Rattle.queue.specs.declared.Queue.{Queue}
 use Rattle.queue.specs.Places.{no_request, request_for, kind_in, request_in, request_at, queue_of, empty_of, stored_of, accept_of, shifted_of, remove_of, get_of}
@@ -30,28 +29,28 @@ write_at a = ask 1 Write a 7
 -- a queue, oldest first, with its oldest unblocked read and its oldest unblocked write
 record Row : Type 0 where
   queued : List Request
-  read : Found
-  write : Found
+  read : Option ℕ
+  write : Option ℕ
 
-abbrev row : List Request → Found → Found → Row
+abbrev row : List Request → Option ℕ → Option ℕ → Row
 row l r w = record { queued = l; read = r; write = w }
 
 abbrev table : List Row
 table =
     -- E10, and what is left of it after each service
-    row (write_at 0 ∷ read_at 0 ∷ read_at 0x800 ∷ []) (At 2) (At 0)
-    ∷ row (write_at 0 ∷ read_at 0 ∷ []) Nothing (At 0)
-    ∷ row (read_at 0 ∷ []) (At 0) Nothing
+    row (write_at 0 ∷ read_at 0 ∷ read_at 0x800 ∷ []) (Some 2) (Some 0)
+    ∷ row (write_at 0 ∷ read_at 0 ∷ []) None (Some 0)
+    ∷ row (read_at 0 ∷ []) (Some 0) None
     -- E11
-    ∷ row (write_at 0 ∷ read_at 0x7FE ∷ []) Nothing (At 0)
+    ∷ row (write_at 0 ∷ read_at 0x7FE ∷ []) None (Some 0)
     -- blocks end at multiples of 0x800
-    ∷ row (write_at 0x7FE ∷ read_at 0x800 ∷ []) (At 1) (At 0)
-    ∷ row (write_at 0x800 ∷ read_at 0xFFE ∷ []) Nothing (At 0)
+    ∷ row (write_at 0x7FE ∷ read_at 0x800 ∷ []) (Some 1) (Some 0)
+    ∷ row (write_at 0x800 ∷ read_at 0xFFE ∷ []) None (Some 0)
     -- a read blocks too
-    ∷ row (read_at 0 ∷ write_at 2 ∷ []) (At 0) Nothing
+    ∷ row (read_at 0 ∷ write_at 2 ∷ []) (Some 0) None
     -- the oldest of several
-    ∷ row (read_at 0x1000 ∷ read_at 0 ∷ write_at 0x800 ∷ write_at 0x1800 ∷ []) (At 0) (At 2)
-    ∷ row [] Nothing Nothing
+    ∷ row (read_at 0x1000 ∷ read_at 0 ∷ write_at 0x800 ∷ write_at 0x1800 ∷ []) (Some 0) (Some 2)
+    ∷ row [] None None
     ∷ []
 
 oldest_examples : map (λ (r : Row). row r.queued (oldest_of Read r.queued) (oldest_of Write r.queued)) table ≡ table

@@ -1,5 +1,6 @@
 -- Laws of the queue's definitions.
 pub mod Array
+pub mod Shifting
 pub mod Walks
 pub mod Order
 pub mod Each

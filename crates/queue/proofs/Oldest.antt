@@ -9,9 +9,9 @@ use borrow.Author.Tests.{lt-ltb, ne_eqb, eqb-true, eqb-false, not-true, not-fals
 use lib.Dec.{eqb}
 use lib.ListN.{length, get_or, take, drop, length-append, get_or-append}
 use lib.Seq.{split_at, take-append-le}
+use Rattle.std.specs.Prelude.{Some, None}
 use Rattle.queue.specs.declared.Kind.{Kind}
 use Rattle.queue.specs.declared.Kind.TheVariants.{Read, Write}
-use Rattle.queue.specs.declared.Found.TheVariants.{At, Nothing}
 use Rattle.queue.specs.declared.Request.{Request}
 use Rattle.queue.specs.Places.{no_request}
 use Rattle.queue.specs.Oldest.{same_kind, shared_by, blocked_of, ready_of, first_of, oldest_of}
@@ -32,13 +32,13 @@ here_or_later test i k h p later = go (ℕ_discrete k i)
     go (yes e) = rw e p
     go (no e) = later (omega arith)
 
-pub first_found : (test : ℕ → Bool) (n i j : ℕ) → first_of test n i ≡ At j → First test i n j
+pub first_found : (test : ℕ → Bool) (n i j : ℕ) → first_of test n i ≡ Some j → First test i n j
 first_found test zero i j e = let z : ◌≡◌ {A = ℕ} 0 1 = cc in absurd (omega arith)
 first_found test (suc n) i j e = go (test i) refl (first_found test n (suc i) j)
   where
-    go : (b : Bool) → test i ≡ b → (first_of test n (suc i) ≡ At j → First test (suc i) n j) → First test i (suc n) j
+    go : (b : Bool) → test i ≡ b → (first_of test n (suc i) ≡ Some j → First test (suc i) n j) → First test i (suc n) j
     go true p later =
-        let found : At i ≡ At j = rw p at e in
+        let found : Some i ≡ Some j = rw p at e in
         let same : i ≡ j = cc in
         record { from = omega arith; below = omega arith; here = rw (← same) p; before = λ k a b. absurd (omega arith) }
     go false p later =
@@ -50,13 +50,13 @@ first_found test (suc n) i j e = go (test i) refl (first_found test n (suc i) j)
           before = λ k a b. here_or_later test i k a p (λ c. found.before k c b);
         }
 
-pub first_nothing : (test : ℕ → Bool) (n i : ℕ) → first_of test n i ≡ Nothing → (k : ℕ) → i ≤ k → k < i + n → test k ≡ false
+pub first_nothing : (test : ℕ → Bool) (n i : ℕ) → first_of test n i ≡ None → (k : ℕ) → i ≤ k → k < i + n → test k ≡ false
 first_nothing test zero i e k a b = absurd (omega arith)
 first_nothing test (suc n) i e k a b = go (test i) refl (first_nothing test n (suc i))
   where
-    go : (b : Bool) → test i ≡ b → (first_of test n (suc i) ≡ Nothing → (k : ℕ) → suc i ≤ k → k < suc i + n → test k ≡ false) → test k ≡ false
+    go : (b : Bool) → test i ≡ b → (first_of test n (suc i) ≡ None → (k : ℕ) → suc i ≤ k → k < suc i + n → test k ≡ false) → test k ≡ false
     go true p later =
-        let found : At i ≡ Nothing = rw p at e in
+        let found : Some i ≡ None = rw p at e in
         let z : ◌≡◌ {A = ℕ} 0 1 = cc in
         absurd (omega arith)
     go false p later = here_or_later test i k a p (λ c. later (rw p at e) k c (omega arith))
@@ -120,14 +120,14 @@ ready_false k l at e p =
     let s : same_kind (get_or l at no_request).kind k ≡ true = rw p (kind_same k) in
     not-false _ (rw s at e)
 
-pub oldest_found : (k : Kind) (l : List Request) (at : ℕ) → oldest_of k l ≡ At at → OldestAt k l at
+pub oldest_found : (k : Kind) (l : List Request) (at : ℕ) → oldest_of k l ≡ Some at → OldestAt k l at
 unfolding oldest_of
 oldest_found k l at e =
     let f = first_found (ready_of k l) (length l) 0 at e in
     let r = ready_true k l at (omega arith) f.here in
     record { servable = r.1; kind = r.0; oldest = λ i h p. ready_false k l i (f.before i (omega arith) h) p }
 
-pub oldest_nothing : (k : Kind) (l : List Request) → oldest_of k l ≡ Nothing
+pub oldest_nothing : (k : Kind) (l : List Request) → oldest_of k l ≡ None
     → (i : ℕ) → i < length l → (get_or l i no_request).kind ≡ k → blocked_of l i ≡ true
 unfolding oldest_of
 oldest_nothing k l e i h p = ready_false k l i (first_nothing (ready_of k l) (length l) 0 e i (omega arith) (omega arith)) p

@@ -10,7 +10,7 @@ use borrow.Author.Tests.{le-leb, lt-leb}
 use lib.Dec.{eqb}
 use lib.ListN.{length, get_or, take, drop, length-take, length-drop, length-append, drop_of_length-le}
 use lib.Seq.{drop-cons, get_or-take, length-take-le}
-use Rattle.queue.specs.declared.Found.TheVariants.{At, Nothing}
+use Rattle.std.specs.Prelude.{Some, None}
 use Rattle.queue.specs.declared.Request.{Request}
 use Rattle.queue.specs.Places.{no_request, requests_in, held_count}
 use Rattle.queue.proofs.Order.{without}
@@ -57,12 +57,12 @@ shared_end b l n i h k =
 
 -- the search for the first place that passes a test, at place i of n
 pub first_step : (test : ℕ → Bool) (n i : ℕ) → i < n
-    → first_of test (n - i) i ≡ cond (test i) (At i) (first_of test (n - (i + 1)) (i + 1))
+    → first_of test (n - i) i ≡ cond (test i) (Some i) (first_of test (n - (i + 1)) (i + 1))
 first_step test n i h =
     let e : n - i ≡ suc (n - (i + 1)) = omega arith in
     rw (e, add-one)
 
-pub first_end : (test : ℕ → Bool) (n i : ℕ) → n ≤ i → first_of test (n - i) i ≡ Nothing
+pub first_end : (test : ℕ → Bool) (n i : ℕ) → n ≤ i → first_of test (n - i) i ≡ None
 first_end test n i h =
     let e : n - i ≡ 0 = omega arith in
     rw e

@@ -1,10 +1,8 @@
 -- Blocked requests and the oldest unblocked one (document 01, "A service slot", rules 2 and 4), on the queued requests as a list, oldest first.
-use Rattle.std.specs.Prelude.{ℕ, zero, suc, Bool, true, false, cond, ◌&&◌, ◌||◌, not, List, [], ◌∷◌, eqb, ltb, length, get_or, take}
+use Rattle.std.specs.Prelude.{ℕ, zero, suc, Bool, true, false, cond, ◌&&◌, ◌||◌, not, List, [], ◌∷◌, eqb, ltb, length, get_or, take, Option, Some, None}
 use Rattle.address.specs.Map.{block_of}
 use Rattle.queue.specs.declared.Kind.{Kind}
 use Rattle.queue.specs.declared.Kind.TheVariants.{Read, Write}
-use Rattle.queue.specs.declared.Found.{Found}
-use Rattle.queue.specs.declared.Found.TheVariants.{At, Nothing}
 use Rattle.queue.specs.declared.Request.{Request}
 use Rattle.queue.specs.Places.{no_request}
 
@@ -28,10 +26,10 @@ unfoldable pub ready_of : Kind → List Request → ℕ → Bool
 ready_of k l at = same_kind (get_or l at no_request).kind k && not (blocked_of l at)
 
 -- the first of the n places from i on that passes a test
-abbrev pub first_of : (ℕ → Bool) → ℕ → ℕ → Found
-first_of test zero i = Nothing
-first_of test (suc n) i = let later = first_of test n (suc i) in cond (test i) (At i) later
+abbrev pub first_of : (ℕ → Bool) → ℕ → ℕ → Option ℕ
+first_of test zero i = None
+first_of test (suc n) i = let later = first_of test n (suc i) in cond (test i) (Some i) later
 
 -- the oldest unblocked request of a kind
-unfoldable pub oldest_of : Kind → List Request → Found
+unfoldable pub oldest_of : Kind → List Request → Option ℕ
 oldest_of k l = first_of (ready_of k l) (length l) 0

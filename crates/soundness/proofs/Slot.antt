@@ -7,6 +7,7 @@ use native.Mathlib.Omega.{arith}
 use lib.Dec.{leb, eqb}
 use lib.ListN.{length-take}
 use borrow.Author.Tests.{leb-false}
+use Rattle.std.specs.Prelude.{Option as StdOption, Some, None}
 use Rattle.config.specs.declared.Config.{Config}
 use Rattle.config.specs.Accepted.{Accepted}
 use Rattle.address.specs.declared.Row.{Row}
@@ -17,8 +18,6 @@ use Rattle.device.specs.View.{all_closed}
 use Rattle.device.proofs.Tests.{if_both}
 use Rattle.ages.specs.declared.Past.{Past}
 use Rattle.ages.specs.Ages.{row_at, by_ages, sent_of}
-use Rattle.queue.specs.declared.Found.{Found}
-use Rattle.queue.specs.declared.Found.TheVariants.{At, Nothing}
 use Rattle.queue.specs.declared.Kind.{Kind}
 use Rattle.queue.specs.declared.Queue.{Queue}
 use Rattle.queue.specs.declared.Request.{Request}
@@ -82,9 +81,9 @@ record Leaves (c : Config) (q : Queue) (a : Action) (s : Served) : Type 0 where
   service : in_service a ≡ true → in_service s.outcome.action ≡ true
 
 -- the request found, or what a later rule chooses
-pub found_both : (P : Action → Type 0) (f : Found) {later : Action} → ((i : ℕ) → f ≡ At i → P (Access i)) → P later → P (access_or f later)
-found_both P (At i) here later = here i refl
-found_both P Nothing here later = later
+pub found_both : (P : Action → Type 0) (f : StdOption ℕ) {later : Action} → ((i : ℕ) → f ≡ Some i → P (Access i)) → P later → P (access_or f later)
+found_both P (Some i) here later = here i refl
+found_both P None here later = later
 
 module _ {c : Config} (ok : Accepted c) (p : Past) (q : Queue) where
   -- a slot that carries k, and serves nothing
@@ -210,7 +209,7 @@ module _ {c : Config} (ok : Accepted c) (p : Past) (q : Queue) where
   abbrev Chosen : Action → Type 0
   Chosen a = Sound c p q a × (in_service a ≡ true)
 
-  chosen_access : p.programmed ≡ true → (kind : Kind) (i : ℕ) → oldest_of kind (held_of q) ≡ At i → Chosen (Access i)
+  chosen_access : p.programmed ≡ true → (kind : Kind) (i : ℕ) → oldest_of kind (held_of q) ≡ Some i → Chosen (Access i)
   chosen_access m kind i e =
       let h = (oldest_found kind (held_of q) i e).servable.within in
       let l = length-take q.count (requests_in q.places) in

@@ -8,6 +8,7 @@ use native.Mathlib.Omega.{arith}
 use borrow.Author.Tests.{eq-eqb, ne_eqb}
 use lib.Dec.{eqb}
 use lib.ListN.{length, get_or, get_or-append}
+use Rattle.std.specs.Prelude.{Option, Some, None}
 use Rattle.config.specs.declared.Geometry.{Geometry}
 use Rattle.address.specs.Map.{capacity_of, cell_of, address_number_of}
 use Rattle.address.specs.Memory.{put}
@@ -15,8 +16,6 @@ use Rattle.address.proofs.Laws.{address_good}
 use Rattle.device.proofs.Tests.{if_both}
 use Rattle.queue.specs.declared.Kind.{Kind}
 use Rattle.queue.specs.declared.Kind.TheVariants.{Read, Write}
-use Rattle.queue.specs.declared.Found.{Found}
-use Rattle.queue.specs.declared.Found.TheVariants.{At}
 use Rattle.queue.specs.declared.Queue.{Queue}
 use Rattle.queue.specs.declared.Request.{Request}
 use Rattle.queue.specs.Places.{request_for, held_of, no_request, empty_of, accept_of}
@@ -178,9 +177,9 @@ module _ (q : Queue) (d : Sdram) (f : Flat) where
   found-doing : (k : Kind) (later : Action) → Doing q d f later → Doing q d f (access_or (oldest_of k (held_of q)) later)
   found-doing k later v = go (oldest_of k (held_of q)) refl
     where
-      go : (x : Found) → oldest_of k (held_of q) ≡ x → Doing q d f (access_or x later)
-      go (At i) e = (oldest_found k (held_of q) i e).servable
-      go Found.Nothing e = v
+      go : (x : Option ℕ) → oldest_of k (held_of q) ≡ x → Doing q d f (access_or x later)
+      go (Some i) e = (oldest_found k (held_of q) i e).servable
+      go None e = v
 
   choice-doing : (run : Bool) (level : Level) (closed : Bool)
       → Doing q d f (rules_of run level (oldest_of Read (held_of q)) (oldest_of Write (held_of q)) closed)

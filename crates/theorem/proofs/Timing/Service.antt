@@ -5,6 +5,7 @@ use mathlib.Core.Bool.{Bool, true, false, true≢false, false≢true}
 use native.Mathlib.Nat.{lt_of_not-le}
 use native.Mathlib.Decide.{dec_le, ℕ_discrete}
 use native.Mathlib.Omega.{arith}
+use Rattle.std.specs.Prelude.{Some}
 use Rattle.config.specs.declared.Config.{Config}
 use Rattle.config.specs.Accepted.{Accepted}
 use Rattle.command.specs.declared.Command.TheVariants.{Nop}
@@ -16,7 +17,6 @@ use Rattle.ages.proofs.Slot.{Aged}
 use Rattle.queue.specs.declared.Kind.{Kind}
 use Rattle.queue.specs.declared.Queue.{Queue}
 use Rattle.queue.specs.declared.Request.{Request}
-use Rattle.queue.specs.declared.Found.TheVariants.{At}
 use Rattle.queue.specs.Places.{held_of, get_of, accept_of}
 use Rattle.queue.specs.Oldest.{oldest_of}
 use Rattle.queue.proofs.Tidy.{Tidy, tidy_length, get_accept}
@@ -279,7 +279,7 @@ module _ {c : Config} (ok : Accepted c) {p : Past} (aged : Aged p) {q : Queue} {
         full = λ x. absurd (omega arith);
       }
 
-  access-starts : n.backlog ≤ 11 → (kind : Kind) (i : ℕ) → oldest_of kind (held_of q) ≡ At i → Starts c p q (Access i) n
+  access-starts : n.backlog ≤ 11 → (kind : Kind) (i : ℕ) → oldest_of kind (held_of q) ≡ Some i → Starts c p q (Access i) n
   access-starts h kind i e =
       let b : left_of c p q (Access i) + 3 ≤ c.access = access-bound ok aged q i in
       record {

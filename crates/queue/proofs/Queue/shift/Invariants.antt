@@ -2,10 +2,8 @@
 use Prim.Native.Nat.{◌-◌}
 use mathlib.Core.Path.{◌≡◌}
 use Rattle.queue.specs.Places.{shifting}
-use Rattle.places.proofs.shift.Given as goal
+use Rattle.queue.proofs.Queue.shift.Given as goal
 
 abbrev pub invariant-loop-i : goal.invariant-loop-i
-invariant-loop-i l = shifting (7 - l.i) l.i l.places ≡ shifting (7 - l.at) l.at l.initial.places
-
-abbrev pub decreases-loop-i : goal.decreases-loop-i
-decreases-loop-i l = 7 - l.i
+invariant-loop-i l =
+    (shifting (7 - l.i) l.i l.self.places ≡ shifting (7 - l.at) l.at l.initial.self.places) × (l.self.count ≡ l.initial.self.count)

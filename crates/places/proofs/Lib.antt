@@ -1,2 +1,0 @@
--- A turn of a loop.
-pub mod Shifting

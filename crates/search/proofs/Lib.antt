@@ -1,0 +1,2 @@
+-- What the test of one place computes.
+pub mod AtPlace
