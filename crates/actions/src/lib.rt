@@ -12,59 +12,30 @@ use plan::Action;
 pub fn is_in_service(action: Action) -> bool
     ensures { result ≡ in_service action }
 {
-    match action {
-        Action::PowerUp(_) => false,
-        Action::InitPrecharge => false,
-        Action::InitRefresh(_) => false,
-        Action::InitMode => false,
-        Action::InitSettle => false,
-        Action::Idle => true,
-        Action::Access(_) => true,
-        Action::CasLatency(_, _) => true,
-        Action::Turnaround => true,
-        Action::PrechargeAll => true,
-        Action::Refresh => true,
-        Action::RefreshCycle(_) => true,
-    }
+    !matches!(
+        action,
+        Action::PowerUp(_)
+            | Action::InitPrecharge
+            | Action::InitRefresh(_)
+            | Action::InitMode
+            | Action::InitSettle
+    )
 }
 
 // Is a choice due?
 pub fn is_idle(action: Action) -> bool
     ensures { result ≡ is_idle action }
 {
-    match action {
-        Action::PowerUp(_) => false,
-        Action::InitPrecharge => false,
-        Action::InitRefresh(_) => false,
-        Action::InitMode => false,
-        Action::InitSettle => false,
-        Action::Idle => true,
-        Action::Access(_) => false,
-        Action::CasLatency(_, _) => false,
-        Action::Turnaround => false,
-        Action::PrechargeAll => false,
-        Action::Refresh => false,
-        Action::RefreshCycle(_) => false,
-    }
+    matches!(action, Action::Idle)
 }
 
-// The place of the request under way, 0 where there is none.
+// The place of the request under way, 0 and no None where there is none: `under_way` says 0, and plan_of and queue_after take that number.
 pub fn place(action: Action) -> u16
     ensures { result ≡ under_way action }
 {
     match action {
-        Action::PowerUp(_) => 0,
-        Action::InitPrecharge => 0,
-        Action::InitRefresh(_) => 0,
-        Action::InitMode => 0,
-        Action::InitSettle => 0,
-        Action::Idle => 0,
-        Action::Access(i) => i,
-        Action::CasLatency(i, _) => i,
-        Action::Turnaround => 0,
-        Action::PrechargeAll => 0,
-        Action::Refresh => 0,
-        Action::RefreshCycle(_) => 0,
+        Action::Access(i) | Action::CasLatency(i, _) => i,
+        _ => 0,
     }
 }
 

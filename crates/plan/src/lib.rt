@@ -39,7 +39,7 @@ pub struct Control {
     pub must: bool,
 }
 
-// What a slot reports: a read with its number and halfword, or a write with its number.
+// What a slot reports: a read with its number and halfword, or a write with its number. Document 01's three cases: an Option would nest a second enum.
 #[derive(Clone, Copy)]
 pub enum Report {
     Nothing,

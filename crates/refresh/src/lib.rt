@@ -14,7 +14,7 @@ pub struct Counters {
 }
 
 // How urgent a refresh is. Source documents 000 and 001 name all but Clear, at which none is owed.
-#[derive(Clone, Copy)]
+#[derive(Clone, Copy, PartialEq, Eq)]
 pub enum Level {
     Clear,
     May,
@@ -88,16 +88,7 @@ impl Counters {
     pub fn sound(self, rr: u16) -> bool
         ensures { result ≡ sound_counters rr self }
     {
-        if self.interval < 1 {
-            return false;
-        }
-        if rr < self.interval {
-            return false;
-        }
-        if 15 < self.backlog {
-            return false;
-        }
-        true
+        1 <= self.interval && self.interval <= rr && self.backlog <= 15
     }
 }
 
@@ -122,9 +113,7 @@ pub fn run_after(running: bool, level: Level) -> bool
     ensures { result ≡ run_of running level }
 {
     match level {
-        Level::Clear => false,
-        Level::May => false,
-        Level::Release => false,
+        Level::Clear | Level::May | Level::Release => false,
         Level::Need => running,
         Level::Must => true,
     }
