@@ -4,48 +4,24 @@
 ghost use Rattle.std.specs.Prelude.{ℕ, ◌≡◌, List};
 ghost use Rattle.device.specs.View.{all_closed};
 ghost use Rattle.ages.specs.Ages.{open_rows};
-ghost use Rattle.queue.specs.Places.{queue_of, held_of};
+ghost use Rattle.queue.specs.Places.{held_of};
 ghost use Rattle.queue.specs.Oldest.{oldest_of};
-ghost use Rattle.plan.specs.Choice.{access_or, needs, idle_refresh, rules_of};
+ghost use Rattle.plan.specs.Choice.{idle_refresh, rules_of};
 ghost use Rattle.choice.specs.Rules.{from_rule5, from_rule3, must_of, action_of};
 
+use ages::Past;
 use plan::Action;
-use queue::{Found, Kind};
+use queue::{Kind, Queue};
 use refresh::Level;
-
-// The request found, or what a later rule chooses.
-fn access_or(found: Found, later: Action) -> Action
-    ensures { result ≡ access_or found later }
-{
-    match found {
-        Found::At(i) => Action::Access(i),
-        Found::Nothing => later,
-    }
-}
-
-// Rule 3.
-fn needs(level: Level) -> bool
-    ensures { result ≡ needs level }
-{
-    match level {
-        Level::Clear => false,
-        Level::May => false,
-        Level::Release => false,
-        Level::Need => true,
-        Level::Must => false,
-    }
-}
 
 // Rule 5, where `closed` says whether all banks are closed.
 fn idle_refresh(level: Level, closed: bool) -> bool
     ensures { result ≡ idle_refresh level closed }
 {
     match level {
-        Level::Clear => false,
         Level::May => closed,
         Level::Release => true,
-        Level::Need => false,
-        Level::Must => false,
+        Level::Clear | Level::Need | Level::Must => false,
     }
 }
 
@@ -62,28 +38,29 @@ fn from_rule5(level: Level, closed: bool) -> Action
 
 // Rules 3 to 6.
 #[tactic(auto, unfolding(crate::specs::Rules::from_rule3))]
-fn from_rule3(level: Level, places: &[u32; 24], count: u32, opened: &[bool; 4]) -> Action
-    ensures { (rows : List ℕ) → result ≡ from_rule3 level (oldest_of Kind.Write (held_of (queue_of places.now count))) (all_closed (open_rows opened.now rows)) }
+fn from_rule3(level: Level, queue: &Queue, past: &Past) -> Action
+    ensures { (rows : List ℕ) → result ≡ from_rule3 level (oldest_of Kind.Write (held_of queue.now)) (all_closed (open_rows past.now.opened rows)) }
 {
-    if needs(level) {
+    if level == Level::Need {
         return Action::PrechargeAll;
     }
-    let write = search::oldest(places, count, Kind::Write);
-    let closed = ages::all_closed(opened);
-    access_or(write, from_rule5(level, closed))
+    match search::oldest(queue, Kind::Write) {
+        Some(i) => Action::Access(i),
+        None => from_rule5(level, past.all_closed()),
+    }
 }
 
 // Rules 1 to 6, from the Must run as of this choice and the backlog's level. The queue is searched only where a rule asks for it.
 #[tactic(auto, unfolding(plan::specs::Choice::rules_of, crate::specs::Rules::from_rule3, crate::specs::Rules::from_rule5))]
-fn choose(run: bool, level: Level, places: &[u32; 24], count: u32, opened: &[bool; 4]) -> Action
-    ensures { (rows : List ℕ) → result ≡ rules_of run level (oldest_of Kind.Read (held_of (queue_of places.now count))) (oldest_of Kind.Write (held_of (queue_of places.now count))) (all_closed (open_rows opened.now rows)) }
+fn choose(run: bool, level: Level, queue: &Queue, past: &Past) -> Action
+    ensures { (rows : List ℕ) → result ≡ rules_of run level (oldest_of Kind.Read (held_of queue.now)) (oldest_of Kind.Write (held_of queue.now)) (all_closed (open_rows past.now.opened rows)) }
 {
     if run {
         return Action::PrechargeAll;
     }
-    match search::oldest(places, count, Kind::Read) {
-        Found::At(i) => Action::Access(i),
-        Found::Nothing => from_rule3(level, places, count, opened),
+    match search::oldest(queue, Kind::Read) {
+        Some(i) => Action::Access(i),
+        None => from_rule3(level, queue, past),
     }
 }
 
@@ -100,18 +77,11 @@ pub fn must_after(action: Action, must: bool, backlog: u8) -> bool
 
 // The action of a slot: the one under way goes on; if there is none, a choice is made. `run` says whether a Must run is on after it.
 #[tactic(auto, unfolding(crate::specs::Rules::action_of))]
-pub fn current(
-    action: Action,
-    run: bool,
-    backlog: u8,
-    places: &[u32; 24],
-    count: u32,
-    opened: &[bool; 4],
-) -> Action
-    ensures { (rows : List ℕ) → result ≡ action_of action run backlog (queue_of places.now count) (all_closed (open_rows opened.now rows)) }
+pub fn current(action: Action, run: bool, backlog: u8, queue: &Queue, past: &Past) -> Action
+    ensures { (rows : List ℕ) → result ≡ action_of action run backlog queue.now (all_closed (open_rows past.now.opened rows)) }
 {
     if actions::is_idle(action) {
-        return choose(run, refresh::urgency(backlog), places, count, opened);
+        return choose(run, refresh::urgency(backlog), queue, past);
     }
     action
 }
