@@ -4,13 +4,10 @@ use Rattle.std.specs.Prelude.{ℕ, List, [], ◌∷◌, ◌++◌, take, drop}
 use Rattle.config.specs.declared.Config.{Config}
 use Rattle.ages.specs.declared.Past.{Past}
 use Rattle.queue.specs.declared.Queue.{Queue}
-use Rattle.queue.specs.Places.{queue_of}
 use Rattle.refresh.specs.declared.Counters.{Counters}
 use Rattle.plan.specs.declared.Control.{Control}
-use Rattle.plan.specs.Actions.{control_of}
 use Rattle.packing.specs.Packing.{command_word, report_word}
 use Rattle.turn.specs.Parts.{Parts, stepped_of}
-use Rattle.batch.specs.declared.Ended.{Ended}
 
 -- the parts after slots, and the words of their commands and reports
 pub record Ran : Type 0 where
@@ -21,17 +18,10 @@ pub record Ran : Type 0 where
   pub commands : List ℕ
   pub reports : List ℕ
 
--- as the code has them: some changed in place, and the rest in its answer
-abbrev pub gathered : Past → List ℕ → Ended → List ℕ → List ℕ → Ran
-gathered p places r commands reports =
-    record {
-      past = p;
-      counters = r.counters;
-      control = control_of r.action r.must;
-      queue = queue_of places r.count;
-      commands = commands;
-      reports = reports;
-    }
+-- as the code has them, changed in place
+abbrev pub gathered : Past → Counters → Control → Queue → List ℕ → List ℕ → Ran
+gathered p n x q commands reports =
+    record { past = p; counters = n; control = x; queue = q; commands = commands; reports = reports }
 
 -- a slot for each of the halfwords that the bus carries
 unfoldable pub ran_of : Config → Past → Counters → Control → Queue → List ℕ → Ran

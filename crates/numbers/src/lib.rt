@@ -2,13 +2,13 @@
 // machine, so that the machine is not copied for them; of the past only at the open flags and at the mode, and the contracts say so.
 #![tactic(auto)]
 
-ghost use Rattle.std.specs.Prelude.{ℕ, ◌≡◌, Bool, List};
+ghost use Rattle.std.specs.Prelude.{◌≡◌, Bool};
 ghost use Rattle.config.specs.Accepted.{accepted_of};
-ghost use Rattle.ages.specs.Ages.{past_of};
 ghost use Rattle.plan.specs.Actions.{control_of};
 ghost use Rattle.numbers.specs.Sound.{state_by};
 ghost use Rattle.numbers.specs.Numbers.{record_number_by, room_number_of, request_number_by};
 
+use ages::Past;
 use config::Config;
 use plan::Action;
 use refresh::Counters;
@@ -18,23 +18,12 @@ const LAST: u32 = 4294967295;
 
 // Soundness of all but the configuration.
 #[tactic(auto, unfolding(crate::specs::Sound::state_by))]
-fn state_sound(
-    config: Config,
-    opened: &[bool; 4],
-    programmed: bool,
-    counters: Counters,
-    action: Action,
-    count: u32,
-) -> bool
-    ensures { (ages rows : List ℕ) (must : Bool) → result ≡ state_by config (past_of ages opened.now rows programmed) counters (control_of action must) count }
+fn state_sound(config: Config, past: &Past, counters: Counters, action: Action, count: u32) -> bool
+    ensures { (must : Bool) → result ≡ state_by config past.now counters (control_of action must) count }
 {
-    if !counters.sound(config.rr) {
-        return false;
-    }
-    if 8 < count {
-        return false;
-    }
-    action_test::action_sound(config, opened, programmed, count, action)
+    counters.sound(config.rr)
+        && count <= 8
+        && action_test::action_sound(config, past, count, action)
 }
 
 // What every call tests first: 9 for an unsound record (docs/SOUNDNESS.md), then 8. The calls test the configuration in their own bodies, where the compiler
@@ -44,14 +33,13 @@ pub fn record_number(
     configured: bool,
     config_accepted: bool,
     config: Config,
-    opened: &[bool; 4],
-    programmed: bool,
+    past: &Past,
     counters: Counters,
     action: Action,
     count: u32,
 ) -> u8
     requires { config_accepted ≡ accepted_of config }
-    ensures { (ages rows : List ℕ) (must : Bool) → result ≡ record_number_by configured config (past_of ages opened.now rows programmed) counters (control_of action must) count }
+    ensures { (must : Bool) → result ≡ record_number_by configured config past.now counters (control_of action must) count }
 {
     if !configured {
         return 8;
@@ -59,7 +47,7 @@ pub fn record_number(
     if !config_accepted {
         return 9;
     }
-    if state_sound(config, opened, programmed, counters, action, count) {
+    if state_sound(config, past, counters, action, count) {
         return 0;
     }
     9
@@ -85,8 +73,7 @@ pub fn request_number(
     configured: bool,
     config_accepted: bool,
     config: Config,
-    opened: &[bool; 4],
-    programmed: bool,
+    past: &Past,
     counters: Counters,
     action: Action,
     count: u32,
@@ -94,14 +81,13 @@ pub fn request_number(
     address: u32,
 ) -> u8
     requires { config_accepted ≡ accepted_of config }
-    ensures { (ages rows : List ℕ) (must : Bool) → result ≡ request_number_by configured config (past_of ages opened.now rows programmed) counters (control_of action must) count accepted address }
+    ensures { (must : Bool) → result ≡ request_number_by configured config past.now counters (control_of action must) count accepted address }
 {
     let first = record_number(
         configured,
         config_accepted,
         config,
-        opened,
-        programmed,
+        past,
         counters,
         action,
         count,

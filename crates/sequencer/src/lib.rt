@@ -82,14 +82,14 @@ fn started_with(config: Config) -> Machine
     requires { config.rr ≤ 8191 }
     ensures { result ≡ machine_of config }
 {
-    let past = ages::fresh();
+    let past = Past::fresh();
     let counters = Counters::start(config.rr);
     let action = actions::first_action(config);
     let control = Control {
         action,
         must: false,
     };
-    let queue = places::empty();
+    let queue = Queue::empty();
     Machine {
         configured: true,
         config,
@@ -163,13 +163,13 @@ impl Machine {
         ensures { result ≡ blank_of }
     {
         let config = config::none();
-        let past = ages::fresh();
+        let past = Past::fresh();
         let counters = Counters::start(0);
         let control = Control {
             action: Action::Idle,
             must: false,
         };
-        let queue = places::empty();
+        let queue = Queue::empty();
         Machine {
             configured: false,
             config,
@@ -200,12 +200,8 @@ impl Machine {
     fn accept(self, request: Request) -> Requested
         ensures { result ≡ enqueued_of self request }
     {
-        let before = self.queue;
-        let mut places = before.places;
-        let count = places::accept(&mut places, before.count, request);
-        let queue = Queue { places, count };
         let mut machine = self;
-        machine.queue = queue;
+        machine.queue.accept(request);
         machine.accepted = request.number;
         Requested {
             number: 0,
@@ -231,24 +227,32 @@ impl Machine {
         self.accept(request)
     }
 
+    // What every call tests first: 9 for an unsound record (docs/SOUNDNESS.md), then 8 for the blank machine.
+    fn record_number(&self) -> u8
+        ensures { result ≡ record_number_of self.now }
+    {
+        numbers::record_number(
+            self.configured,
+            config::accepted(self.config),
+            self.config,
+            &self.past,
+            self.counters,
+            self.control.action,
+            self.queue.count,
+        )
+    }
+
     // Hands in a request of either kind; a halfword given with a read is ignored.
     pub fn request(self, kind: Kind, address: u32, halfword: u16) -> Requested
         ensures { result ≡ request_of self kind address halfword }
     {
-        let config = self.config;
-        let past = self.past;
-        let opened = past.opened;
-        let counters = self.counters;
-        let control = self.control;
-        let action = control.action;
         let number = numbers::request_number(
             self.configured,
-            config::accepted(config),
-            config,
-            &opened,
-            past.programmed,
-            counters,
-            action,
+            config::accepted(self.config),
+            self.config,
+            &self.past,
+            self.counters,
+            self.control.action,
             self.queue.count,
             self.accepted,
             address,
@@ -256,152 +260,50 @@ impl Machine {
         self.answered(number, kind, address, halfword)
     }
 
-    // The machine with the parts that slots change.
-    fn with_parts(self, past: Past, counters: Counters, control: Control, queue: Queue) -> Machine
-        ensures { result ≡ machine_with self.configured self.config past counters control queue self.accepted }
-    {
-        let config = self.config;
-        Machine {
-            queue,
-            past,
-            config,
-            counters,
-            control,
-            configured: self.configured,
-            accepted: self.accepted,
-        }
-    }
-
-    // One slot; `bus` is the halfword that the bus carries. The arrays are lent and changed in place; the machine is built once, at the end, for a refused
-    // slot too: an early return would copy it.
+    // One slot; `bus` is the halfword that the bus carries.
     #[tactic(auto, using(crate::proofs::Laws::slot_is, crate::proofs::Sound::record_facts))]
     pub fn slot(self, bus: u16) -> Slot
         ensures { result ≡ slot_of self bus }
     {
-        let config = self.config;
-        let past = self.past;
-        let counters = self.counters;
-        let control = self.control;
-        let queue = self.queue;
-        let mut ages = past.ages;
-        let mut opened = past.opened;
-        let mut rows = past.rows;
-        let mut programmed = past.programmed;
-        let mut places = queue.places;
-        let before = control.action;
-        let number = numbers::record_number(
-            self.configured,
-            config::accepted(config),
-            config,
-            &opened,
-            programmed,
-            counters,
-            before,
-            queue.count,
-        );
+        let mut machine = self;
+        let number = self.record_number();
         let turned = turn::turn(
             number,
-            config,
-            &mut ages,
-            &mut opened,
-            &mut rows,
-            &mut programmed,
-            &mut places,
-            queue.count,
-            counters,
-            before,
-            control.must,
+            self.config,
+            &mut machine.past,
+            &mut machine.counters,
+            &mut machine.control,
+            &mut machine.queue,
             bus,
         );
-        let command = turned.command;
-        let report = turned.report;
-        let action = turned.action;
-        let counters_after = turned.counters;
-        let past_after = Past {
-            ages,
-            opened,
-            rows,
-            programmed,
-        };
-        let control_after = Control {
-            action,
-            must: turned.must,
-        };
-        let queue_after = Queue {
-            places,
-            count: turned.count,
-        };
-        let after = self.with_parts(past_after, counters_after, control_after, queue_after);
         Slot {
-            machine: after,
+            machine,
             number,
-            command,
-            report,
+            command: turned.command,
+            report: turned.report,
         }
     }
 
     // Runs as many slots as the shortest of the three arrays has places; `bus` has the halfword that the bus carries in each. The words of their commands and
-    // reports (docs/PACKING.md) are stored from the first place on, and the places beyond the count stay. Refused, no slot is run, and nothing changes. The
-    // machine's parts stay in place for all slots, and it is built once.
+    // reports (docs/PACKING.md) are stored from the first place on, and the places beyond the count stay. Refused, no slot is run, and nothing changes.
     #[tactic(auto, using(crate::proofs::Batch::slots_is, crate::proofs::Batch::room_shows, crate::proofs::Sound::record_facts))]
     pub fn slots(self, bus: &[u16], commands: &mut [u64], reports: &mut [u64]) -> Slots
         ensures { gathered result commands.new reports.new ≡ many_slots_of self bus.now commands.old reports.old }
     {
-        let config = self.config;
-        let past = self.past;
-        let counters = self.counters;
-        let control = self.control;
-        let queue = self.queue;
-        let mut ages = past.ages;
-        let mut opened = past.opened;
-        let mut rows = past.rows;
-        let mut programmed = past.programmed;
-        let mut places = queue.places;
-        let before = control.action;
-        let number = numbers::record_number(
-            self.configured,
-            config::accepted(config),
-            config,
-            &opened,
-            programmed,
-            counters,
-            before,
-            queue.count,
-        );
+        let mut machine = self;
+        let number = self.record_number();
         let count = room(number, bus.len(), commands.len(), reports.len());
-        let ended = batch::run(
+        batch::run(
             count,
-            config,
-            &mut ages,
-            &mut opened,
-            &mut rows,
-            &mut programmed,
-            &mut places,
-            queue.count,
-            counters,
-            before,
-            control.must,
+            self.config,
+            &mut machine.past,
+            &mut machine.counters,
+            &mut machine.control,
+            &mut machine.queue,
             bus,
             commands,
             reports,
         );
-        let action = ended.action;
-        let counters_after = ended.counters;
-        let past_after = Past {
-            ages,
-            opened,
-            rows,
-            programmed,
-        };
-        let control_after = Control {
-            action,
-            must: ended.must,
-        };
-        let queue_after = Queue {
-            places,
-            count: ended.count,
-        };
-        let machine = self.with_parts(past_after, counters_after, control_after, queue_after);
         Slots {
             machine,
             number,
@@ -414,28 +316,13 @@ impl Machine {
     pub fn backlog(self) -> Reading
         ensures { result ≡ backlog_of self }
     {
-        let config = self.config;
-        let past = self.past;
-        let opened = past.opened;
-        let counters = self.counters;
-        let control = self.control;
-        let action = control.action;
-        let number = numbers::record_number(
-            self.configured,
-            config::accepted(config),
-            config,
-            &opened,
-            past.programmed,
-            counters,
-            action,
-            self.queue.count,
-        );
+        let number = self.record_number();
         if number != 0 {
             return Reading { number, backlog: 0 };
         }
         Reading {
             number: 0,
-            backlog: counters.backlog,
+            backlog: self.counters.backlog,
         }
     }
 }

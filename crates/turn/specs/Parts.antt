@@ -26,17 +26,9 @@ pub record Parts : Type 0 where
   pub control : Control
   pub queue : Queue
 
--- as the code has them: the past and the places changed in place, and the rest in its answer
-abbrev pub gathered : Past → List ℕ → Turned → Parts
-gathered p places r =
-    record {
-      command = r.command;
-      report = r.report;
-      past = p;
-      counters = r.counters;
-      control = control_of r.action r.must;
-      queue = queue_of places r.count;
-    }
+-- as the code has them: the parts changed in place, and the rest in its answer
+abbrev pub gathered : Past → Counters → Control → Queue → Turned → Parts
+gathered p n x q r = record { command = r.command; report = r.report; past = p; counters = n; control = x; queue = q }
 
 -- the slot of `plan`, with the past after its command
 unfoldable pub stepped_of : Config → Past → Counters → Control → Queue → ℕ → Parts
@@ -55,9 +47,8 @@ stepped_of c p n x q bus =
 abbrev pub kept_of : Past → Counters → Control → Queue → Parts
 kept_of p n x q = record { command = Nop; report = Nothing; past = p; counters = n; control = x; queue = q }
 
-abbrev pub refused_of : ℕ → Counters → Action → Bool → Turned
-refused_of count n action must =
-    record { command = Nop; report = Nothing; sent = 0; told = 0; action = action; counters = n; count = count; must = must }
+abbrev pub refused_of : Turned
+refused_of = record { command = Nop; report = Nothing; sent = 0; told = 0 }
 
 -- a slot is refused by any number but 0
 unfoldable pub turned_of : ℕ → Config → Past → Counters → Control → Queue → ℕ → Parts

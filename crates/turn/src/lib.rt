@@ -1,34 +1,29 @@
 // Owns one slot on the machine's parts (document 01, "Start" and "A service slot"; `plan` has the rules): the counters, the choice, the plan of
-// the action, the queue and the past after it. The past's arrays and the queue's places are changed in place.
+// the action, the queue and the past after it. The parts are lent, and changed in place.
 #![tactic(auto)]
 
-ghost use Rattle.std.specs.Prelude.{◌≡◌, length};
+ghost use Rattle.std.specs.Prelude.{◌≡◌};
 ghost use Rattle.config.specs.Accepted.{Shaped};
-ghost use Rattle.ages.specs.Ages.{past_of};
-ghost use Rattle.queue.specs.Places.{queue_of};
-ghost use Rattle.plan.specs.Actions.{control_of, under_way};
+ghost use Rattle.plan.specs.Actions.{under_way};
 ghost use Rattle.plan.specs.Plan.{queue_after};
 ghost use Rattle.plan.specs.Slot.{ticked_of};
 ghost use Rattle.packing.specs.Packing.{command_word, report_word};
 ghost use Rattle.turn.specs.Parts.{gathered, stepped_of, refused_of, turned_of};
 
+use ages::Past;
 use command::Command;
 use config::Config;
-use plan::{Action, Report};
+use plan::{Action, Control, Report};
+use queue::Queue;
 use refresh::Counters;
 
-// What a slot gives, beside what it changes in place: its command and report, and the machine's other parts after it.
+// What a slot gives, beside what it changes in place: its command and report, and their words (docs/PACKING.md).
 #[derive(Clone, Copy)]
 pub struct Turned {
     pub command: Command,
     pub report: Report,
-    // The words of these two (docs/PACKING.md).
     pub sent: u64,
     pub told: u64,
-    pub action: Action,
-    pub counters: Counters,
-    pub count: u32,
-    pub must: bool,
 }
 
 // The slot's counters: the interval falls in a service slot.
@@ -42,104 +37,81 @@ fn ticked(c: Config, n: Counters, action: Action) -> Counters
     n
 }
 
-// The request of an action may leave the queue. It gives the count after it.
+// The request of an action may leave the queue.
 #[tactic(auto, unfolding(plan::specs::Plan::queue_after))]
-fn queue_after(places: &mut [u32; 24], count: u32, action: Action, leaves: bool) -> u32
-    ensures { queue_of places.new result ≡ queue_after (queue_of places.old count) (under_way action) leaves }
+fn dequeue(queue: &mut Queue, action: Action, leaves: bool)
+    ensures { queue.new ≡ queue_after queue.old (under_way action) leaves }
 {
     if leaves {
-        return places::remove(places, count, actions::place(action));
+        queue.remove(actions::place(action));
     }
-    count
 }
 
-// One slot, with the action under way when it begins; `must` says whether a Must run is on, and `bus` is the halfword that the bus carries.
+// One slot; `bus` is the halfword that the bus carries.
 #[tactic(auto, using(crate::proofs::Laws::step_is), unfolding(aging::specs::Noted::elapsed_of))]
 pub fn step(
     c: Config,
-    ages: &mut [u8; 16],
-    opened: &mut [bool; 4],
-    rows: &mut [u16; 4],
-    programmed: &mut bool,
-    places: &mut [u32; 24],
-    count: u32,
-    n: Counters,
-    action: Action,
-    must: bool,
+    past: &mut Past,
+    counters: &mut Counters,
+    control: &mut Control,
+    queue: &mut Queue,
     bus: u16,
 ) -> Turned
-    requires shaped { Shaped c.geometry }
-    requires ages_len { (length ages.old ≡ 16) × (length opened.old ≡ 4) × (length rows.old ≡ 4) }
-    ensures result_after { gathered (past_of ages.new opened.new rows.new programmed.new) places.new result ≡ stepped_of c (past_of ages.old opened.old rows.old programmed.old) n (control_of action must) (queue_of places.old count) bus }
-    ensures sent_value { (result.sent ≡ command_word result.command) × (result.told ≡ report_word result.report) }
+    requires { Shaped c.geometry }
+    ensures parts { gathered past.new counters.new control.new queue.new result ≡ stepped_of c past.old counters.old control.old queue.old bus }
+    ensures words { (result.sent ≡ command_word result.command) × (result.told ≡ report_word result.report) }
 {
-    let ticked = ticked(c, n, action);
-    let run = choice::must_after(action, must, ticked.backlog);
-    let current = choice::current(action, run, ticked.backlog, places, count, opened);
-    let carried = service::serve(c, ages, opened, rows, programmed, places, current, bus);
-    let command = carried.command;
-    let report = carried.report;
-    // Here, where the compiler still knows which command it is; a caller that does not use the words does not pay for them.
-    let sent = packing::pack_command(command);
-    let told = packing::pack_report(report);
-    let counters = service::counters_after(ticked, carried.refreshes);
-    let left = queue_after(places, count, current, carried.leaves);
-    aging::elapse(ages);
-    let next = carried.action;
+    let ticked = ticked(c, *counters, control.action);
+    let run = choice::must_after(control.action, control.must, ticked.backlog);
+    let current = choice::current(control.action, run, ticked.backlog, queue, past);
+    let carried = service::serve(c, past, queue, current, bus);
+    // The words here, where the compiler still knows which command it is; a caller that does not use them does not pay for them.
+    let sent = packing::pack_command(carried.command);
+    let told = packing::pack_report(carried.report);
+    *counters = service::counters_after(ticked, carried.refreshes);
+    dequeue(queue, current, carried.leaves);
+    aging::elapse(past);
+    *control = Control {
+        action: carried.action,
+        must: run,
+    };
     Turned {
-        command,
-        report,
+        command: carried.command,
+        report: carried.report,
         sent,
         told,
-        action: next,
-        counters,
-        count: left,
-        must: run,
     }
 }
 
-// A slot that is refused.
-fn refused(count: u32, n: Counters, action: Action, must: bool) -> Turned
-    ensures { result ≡ refused_of count n action must }
+// What a refused slot gives.
+fn refused() -> Turned
+    ensures { result ≡ refused_of }
 {
     Turned {
         command: Command::Nop,
         report: Report::Nothing,
         sent: 0,
         told: 0,
-        action,
-        counters: n,
-        count,
-        must,
     }
 }
 
-// One slot where the number is 0; any other number refuses it: a NOP that reports nothing, and nothing changes. Both return to one place in
-// `Machine::slot`, which builds the machine.
+// One slot where the number is 0; any other number refuses it: a NOP that reports nothing, and nothing changes.
 #[tactic(auto, unfolding(crate::specs::Parts::turned_of, packing::specs::Packing::word_of, packing::specs::Packing::command_word, packing::specs::Packing::report_word))]
 pub fn turn(
     number: u8,
     c: Config,
-    ages: &mut [u8; 16],
-    opened: &mut [bool; 4],
-    rows: &mut [u16; 4],
-    programmed: &mut bool,
-    places: &mut [u32; 24],
-    count: u32,
-    n: Counters,
-    action: Action,
-    must: bool,
+    past: &mut Past,
+    counters: &mut Counters,
+    control: &mut Control,
+    queue: &mut Queue,
     bus: u16,
 ) -> Turned
-    requires shaped { number ≡ 0 → Shaped c.geometry }
-    requires ages_len { (length ages.old ≡ 16) × (length opened.old ≡ 4) × (length rows.old ≡ 4) }
-    ensures result_after { gathered (past_of ages.new opened.new rows.new programmed.new) places.new result ≡ turned_of number c (past_of ages.old opened.old rows.old programmed.old) n (control_of action must) (queue_of places.old count) bus }
-    ensures sent_value { (result.sent ≡ command_word result.command) × (result.told ≡ report_word result.report) }
+    requires { number ≡ 0 → Shaped c.geometry }
+    ensures parts { gathered past.new counters.new control.new queue.new result ≡ turned_of number c past.old counters.old control.old queue.old bus }
+    ensures words { (result.sent ≡ command_word result.command) × (result.told ≡ report_word result.report) }
 {
     if number != 0 {
-        return refused(count, n, action, must);
+        return refused();
     }
-    step(
-        c, ages, opened, rows, programmed, places, count, n, action, must, bus,
-    )
+    step(c, past, counters, control, queue, bus)
 }
