@@ -11,7 +11,7 @@ use Rattle.device.specs.View.{is_some, all_closed}
 use Rattle.ages.specs.Ages.{open_in, row_in, open_rows}
 
 -- is the bank open, as a rule asks it
-open_is : (o : List Bool) (r : List ℕ) (b : ℕ) → is_some (open_rows o r b) ≡ open_in o b
+pub open_is : (o : List Bool) (r : List ℕ) (b : ℕ) → is_some (open_rows o r b) ≡ open_in o b
 unfolding open_rows
 open_is o r b = go (open_in o b)
   where

@@ -1,13 +1,14 @@
 // Owns the past after a slot (`ages` has the record), made in place: what the slot's command starts is noted with age 0, and then the slot passes, in which all
 // ages become a slot older. A bank that no device has is taken for none.
-#![tactic(auto)]
+#![tactic(auto, unfolding(crate::specs::Noted::noted_of, crate::specs::Noted::noted_ages, crate::specs::Noted::noted_open, crate::specs::Noted::noted_rows, crate::specs::Noted::noted_mode))]
 
-ghost use Rattle.std.specs.Prelude.{◌≡◌, false, true, map, ◌+◌, set, replicate};
+ghost use Rattle.std.specs.Prelude.{◌≡◌, false, ℕ};
 ghost use Rattle.ages.specs.Ages.{aged_of};
-ghost use Rattle.aging.specs.Noted.{at_bank, precharged};
+ghost use Rattle.aging.specs.Noted.{noted_of, elapsed_of};
 
-use address::{Bank, Row};
-use ages::CAP;
+use address::{Bank, Column, Row};
+use ages::{CAP, Past};
+use command::Command;
 
 // An age after a slot whose command doesn't start its distances.
 #[tactic(auto, unfolding(ages::specs::Ages::aged_of))]
@@ -21,86 +22,75 @@ fn aged(age: u8) -> u8
 }
 
 // A slot passes.
-#[tactic(auto, using(crate::proofs::Loop::changed, crate::proofs::Loop::changed_next, crate::proofs::Loop::changed_all, crate::proofs::Loop::changed_length))]
-pub fn elapse(ages: &mut [u8; 16])
-    ensures { ages.new ≡ map (aged_of false) ages.old }
+#[tactic(auto, using(crate::proofs::Loop::changed_next, crate::proofs::Loop::changed_all, crate::proofs::Loop::changed_length), unfolding(crate::specs::Noted::elapsed_of))]
+pub fn elapse(past: &mut Past)
+    ensures { past.new ≡ elapsed_of past.old }
 {
-    // The proof knows the length of a slice, and none of an array that is lent.
-    let all: &mut [u8] = ages;
-    let mut i = 0;
-    while i < 16 {
-        let age = all[i];
-        all[i] = aged(age);
-        i += 1;
+    for i in 0..16 {
+        past.ages[i] = aged(past.ages[i]);
     }
 }
 
 // What each command starts.
 
-pub fn note_act(
-    ages: &mut [u8; 16],
-    opened: &mut [bool; 4],
-    rows: &mut [u16; 4],
-    bank: Bank,
-    row: Row,
-)
-    ensures { (ages.new ≡ at_bank ages.old 0 bank.0 0) × (opened.new ≡ at_bank opened.old 0 bank.0 true) × (rows.new ≡ at_bank rows.old 0 bank.0 row.0) }
+pub fn note_act(past: &mut Past, bank: Bank, row: Row)
+    ensures { past.new ≡ noted_of past.old (Command.Act bank row) }
 {
     let b = bank.0 as usize;
     if b < 4 {
-        ages[b] = 0;
-        opened[b] = true;
-        rows[b] = row.0;
+        past.ages[b] = 0;
+        past.opened[b] = true;
+        past.rows[b] = row.0;
     }
 }
 
-pub fn note_read(ages: &mut [u8; 16])
-    ensures { ages.new ≡ set ages.old 11 0 }
+pub fn note_read(past: &mut Past)
+    ensures { (bank : Bank) (column : Column) → past.new ≡ noted_of past.old (Command.Read bank column) }
 {
-    ages[11] = 0;
+    past.ages[11] = 0;
 }
 
-pub fn note_wrt(ages: &mut [u8; 16], bank: Bank)
-    ensures { ages.new ≡ at_bank ages.old 12 bank.0 0 }
+pub fn note_wrt(past: &mut Past, bank: Bank)
+    ensures { (column : Column) (halfword : ℕ) → past.new ≡ noted_of past.old (Command.Wrt bank column halfword) }
 {
     let b = bank.0 as usize;
     if b < 4 {
-        ages[12 + b] = 0;
+        past.ages[12 + b] = 0;
     }
 }
 
 // A PRE starts R15's distance, too, whatever its bank.
-pub fn note_pre(ages: &mut [u8; 16], opened: &mut [bool; 4], bank: Bank)
-    ensures { (ages.new ≡ at_bank (set ages.old 10 0) 4 bank.0 0) × (opened.new ≡ at_bank opened.old 0 bank.0 false) }
+pub fn note_pre(past: &mut Past, bank: Bank)
+    ensures { past.new ≡ noted_of past.old (Command.Pre bank) }
 {
-    ages[10] = 0;
+    past.ages[10] = 0;
     let b = bank.0 as usize;
     if b < 4 {
-        ages[4 + b] = 0;
-        opened[b] = false;
+        past.ages[4 + b] = 0;
+        past.opened[b] = false;
     }
 }
 
-pub fn note_deac(ages: &mut [u8; 16], opened: &mut [bool; 4])
-    ensures { (ages.new ≡ precharged ages.old) × (opened.new ≡ replicate 4 false) }
+pub fn note_deac(past: &mut Past)
+    ensures { past.new ≡ noted_of past.old Command.Deac }
 {
-    ages[4] = 0;
-    ages[5] = 0;
-    ages[6] = 0;
-    ages[7] = 0;
-    ages[10] = 0;
-    *opened = [false; 4];
+    past.ages[4] = 0;
+    past.ages[5] = 0;
+    past.ages[6] = 0;
+    past.ages[7] = 0;
+    past.ages[10] = 0;
+    past.opened = [false; 4];
 }
 
-pub fn note_refr(ages: &mut [u8; 16])
-    ensures { ages.new ≡ set ages.old 8 0 }
+pub fn note_refr(past: &mut Past)
+    ensures { past.new ≡ noted_of past.old Command.Refr }
 {
-    ages[8] = 0;
+    past.ages[8] = 0;
 }
 
-pub fn note_mrs(ages: &mut [u8; 16], programmed: &mut bool)
-    ensures { (ages.new ≡ set ages.old 9 0) × (programmed.new ≡ true) }
+pub fn note_mrs(past: &mut Past)
+    ensures { (word : ℕ) → past.new ≡ noted_of past.old (Command.Mrs word) }
 {
-    ages[9] = 0;
-    *programmed = true;
+    past.ages[9] = 0;
+    past.programmed = true;
 }

@@ -1,12 +1,12 @@
 -- How the code goes about a slot. Nothing here has to be believed: the proofs of `turn` show that it is the slot of `plan`.
-use Rattle.std.specs.Prelude.{ℕ, ◌-◌, ◌≡◌, Bool, cond, List, leb}
+use Rattle.std.specs.Prelude.{ℕ, ◌-◌, ◌≡◌, cond, leb}
 use Rattle.config.specs.declared.Config.{Config}
 use Rattle.command.specs.declared.Command.{Command}
 use Rattle.command.specs.declared.Command.TheVariants.{Nop}
 use Rattle.device.specs.View.{View}
 use Rattle.device.specs.Rules.{legal_of}
 use Rattle.ages.specs.declared.Past.{Past}
-use Rattle.ages.specs.Ages.{past_of, by_ages}
+use Rattle.ages.specs.Ages.{by_ages}
 use Rattle.aging.specs.Noted.{noted_of}
 use Rattle.queue.specs.declared.Request.{Request}
 use Rattle.plan.specs.declared.Action.{Action}
@@ -37,8 +37,3 @@ latency_of i left r bus = cond (leb left 1) (taken_of r bus) (rest_of (CasLatenc
 pub record Conducted (c : Config) (before after : Past) (plan : Plan) (e : Carried) : Type 0 where
   pub result : e ≡ conducted_of c (by_ages c before) plan
   pub noted : after ≡ noted_of before e.command
-
--- The same of a function that is lent the ages and the open flags alone: whatever rows are open, and whether or not the mode is set.
-abbrev pub ConductedBy : Config → List ℕ → List Bool → List ℕ → List Bool → Plan → Carried → Type 0
-ConductedBy c ages opened ages' opened' plan e =
-    (rows : List ℕ) (programmed : Bool) → Conducted c (past_of ages opened rows programmed) (past_of ages' opened' rows programmed) plan e

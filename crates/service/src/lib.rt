@@ -2,10 +2,10 @@
 // otherwise NOP, and what follows. What the command starts is noted in the past at once.
 #![tactic(auto)]
 
-ghost use Rattle.std.specs.Prelude.{ℕ, ◌-◌, ◌≡◌, List};
+ghost use Rattle.std.specs.Prelude.{◌-◌, ◌≡◌};
 ghost use Rattle.config.specs.Accepted.{Shaped};
-ghost use Rattle.ages.specs.Ages.{past_of, open_rows, by_ages};
-ghost use Rattle.command.specs.declared.Command.TheVariants.{Act, Pre, Deac, Refr, Mrs};
+ghost use Rattle.ages.specs.Ages.{row_at, by_ages};
+ghost use Rattle.command.specs.declared.Command.TheVariants.{Nop, Act, Pre, Deac, Refr, Mrs};
 ghost use Rattle.plan.specs.declared.Action.TheVariants.{InitRefresh, InitMode, InitSettle, Access};
 ghost use Rattle.queue.specs.Places.{request_at};
 ghost use Rattle.plan.specs.Actions.{under_way};
@@ -24,13 +24,14 @@ ghost use Rattle.plan.specs.Plan.{
   plan_of,
   counters_after,
 };
-ghost use Rattle.service.specs.Serve.{carried_with, rest_of, taken_of, latency_of, Conducted, ConductedBy};
+ghost use Rattle.service.specs.Serve.{carried_with, rest_of, taken_of, latency_of, Conducted};
 
 use address::{Bank, Cell, Row};
+use ages::Past;
 use command::Command;
 use config::Config;
 use plan::{Action, Report};
-use queue::{Kind, Request};
+use queue::{Kind, Queue, Request};
 use refresh::Counters;
 
 // A plan carried out: the slot's command, the next action, the report, whether the request under way leaves the queue, and whether the backlog falls.
@@ -57,7 +58,8 @@ pub fn counters_after(n: Counters, refreshes: bool) -> Counters
 // A command after which nothing but the next action follows.
 #[tactic(auto, unfolding(crate::specs::Serve::carried_with, plan::specs::Plan::quietly))]
 fn quiet(command: Command, action: Action) -> Carried
-    ensures { result ≡ carried_with command (quietly action) }
+    ensures result_value { result ≡ carried_with command (quietly action) }
+    ensures command_is { result.command ≡ command }
 {
     Carried {
         command,
@@ -71,7 +73,8 @@ fn quiet(command: Command, action: Action) -> Carried
 // A NOP.
 #[tactic(auto, unfolding(crate::specs::Serve::rest_of))]
 fn rest(action: Action) -> Carried
-    ensures { result ≡ rest_of action }
+    ensures result_value { result ≡ rest_of action }
+    ensures command_is { result.command ≡ Nop }
 {
     quiet(Command::Nop, action)
 }
@@ -112,7 +115,8 @@ fn refresh_cycle(slots: u16) -> Action
 // The slot of a read's halfword.
 #[tactic(auto, unfolding(crate::specs::Serve::taken_of, crate::specs::Serve::carried_with, plan::specs::Plan::taken_plan))]
 fn taken(r: Request, bus: u16) -> Carried
-    ensures { result ≡ taken_of r bus }
+    ensures result_value { result ≡ taken_of r bus }
+    ensures command_is { result.command ≡ Nop }
 {
     Carried {
         command: Command::Nop,
@@ -125,25 +129,26 @@ fn taken(r: Request, bus: u16) -> Carried
 
 // A slot after a READ for the request at place i.
 #[tactic(auto, unfolding(crate::specs::Serve::latency_of))]
-fn latency(i: u16, left: u16, places: &[u32; 24], bus: u16) -> Carried
-    ensures { result ≡ latency_of i left (request_at places.now i) bus }
+fn latency(i: u16, left: u16, queue: &Queue, bus: u16) -> Carried
+    ensures result_value { result ≡ latency_of i left (request_at queue.now.places i) bus }
+    ensures command_is { result.command ≡ Nop }
 {
     if left <= 1 {
-        return taken(places::request_at(places, i), bus);
+        return taken(queue.request_at(i), bus);
     }
     rest(Action::CasLatency(i, left - 1))
 }
 
 // The READ for the request at place i with this cell.
-#[tactic(auto, using(crate::proofs::Laws::sent, crate::proofs::Laws::refused), unfolding(plan::specs::Plan::read_plan, plan::specs::Plan::tries, aging::specs::Noted::noted_of, aging::specs::Noted::noted_ages, aging::specs::Noted::noted_open, aging::specs::Noted::noted_rows, aging::specs::Noted::noted_mode))]
-fn read(c: Config, ages: &mut [u8; 16], opened: &[bool; 4], i: u16, cell: Cell) -> Carried
+#[tactic(auto, using(crate::proofs::Laws::sent, crate::proofs::Laws::refused, aging::proofs::Slot::noted_nop), unfolding(plan::specs::Plan::read_plan, plan::specs::Plan::tries))]
+fn read(c: Config, past: &mut Past, i: u16, cell: Cell) -> Carried
     requires { Shaped c.geometry }
-    ensures { ConductedBy c ages.old opened.now ages.new opened.now (read_plan c i cell) result }
+    ensures { Conducted c past.old past.new (read_plan c i cell) result }
 {
     let bank = cell.bank;
     let column = cell.column;
-    if legality::read_legal(c, ages, opened, bank, column) {
-        aging::note_read(ages);
+    if legality::read_legal(c, past, bank, column) {
+        aging::note_read(past);
         return quiet(
             Command::Read(bank, column),
             Action::CasLatency(i, c.latency as u16),
@@ -154,23 +159,16 @@ fn read(c: Config, ages: &mut [u8; 16], opened: &[bool; 4], i: u16, cell: Cell) 
 
 // The WRT for the request at place i with this cell. Its number and halfword are read only where they are sent: held from the start of an access, they cost in
 // each of its slots.
-#[tactic(auto, using(legality::proofs::Hold::wrt_any, crate::proofs::Laws::sent, crate::proofs::Laws::refused), unfolding(plan::specs::Plan::write_plan, crate::specs::Serve::carried_with, aging::specs::Noted::noted_of, aging::specs::Noted::noted_ages, aging::specs::Noted::noted_open, aging::specs::Noted::noted_rows, aging::specs::Noted::noted_mode))]
-fn write(
-    c: Config,
-    ages: &mut [u8; 16],
-    opened: &[bool; 4],
-    places: &[u32; 24],
-    i: u16,
-    cell: Cell,
-) -> Carried
+#[tactic(auto, using(crate::proofs::Laws::sent, crate::proofs::Laws::refused, aging::proofs::Slot::noted_nop), unfolding(plan::specs::Plan::write_plan, crate::specs::Serve::carried_with))]
+fn write(c: Config, past: &mut Past, queue: &Queue, i: u16, cell: Cell) -> Carried
     requires { Shaped c.geometry }
-    ensures { ConductedBy c ages.old opened.now ages.new opened.now (write_plan i (request_at places.now i) cell) result }
+    ensures { Conducted c past.old past.new (write_plan i (request_at queue.now.places i) cell) result }
 {
     let bank = cell.bank;
     let column = cell.column;
-    if legality::wrt_legal(c, ages, opened, bank, column) {
-        aging::note_wrt(ages, bank);
-        let r = places::request_at(places, i);
+    if legality::wrt_legal(c, past, bank, column) {
+        aging::note_wrt(past, bank);
+        let r = queue.request_at(i);
         return Carried {
             command: Command::Wrt(bank, column, r.halfword),
             action: Action::Idle,
@@ -184,54 +182,38 @@ fn write(
 
 // The READ or the WRT.
 #[tactic(auto, unfolding(plan::specs::Plan::transfer_plan, plan::specs::Plan::write_plan))]
-fn transfer(
-    c: Config,
-    ages: &mut [u8; 16],
-    opened: &[bool; 4],
-    places: &[u32; 24],
-    i: u16,
-    cell: Cell,
-) -> Carried
+fn transfer(c: Config, past: &mut Past, queue: &Queue, i: u16, cell: Cell) -> Carried
     requires { Shaped c.geometry }
-    ensures { ConductedBy c ages.old opened.now ages.new opened.now (transfer_plan c i (request_at places.now i) cell (request_at places.now i).kind) result }
+    ensures { Conducted c past.old past.new (transfer_plan c i (request_at queue.now.places i) cell (request_at queue.now.places i).kind) result }
 {
-    let kind = places::request_at(places, i).kind;
+    let kind = queue.request_at(i).kind;
     match kind {
-        Kind::Read => read(c, ages, opened, i, cell),
-        Kind::Write => write(c, ages, opened, places, i, cell),
+        Kind::Read => read(c, past, i, cell),
+        Kind::Write => write(c, past, queue, i, cell),
     }
 }
 
 // The PRE for the request at place i.
-#[tactic(auto, using(crate::proofs::Laws::sent, crate::proofs::Laws::refused), unfolding(plan::specs::Plan::tries, aging::specs::Noted::noted_of, aging::specs::Noted::noted_ages, aging::specs::Noted::noted_open, aging::specs::Noted::noted_rows, aging::specs::Noted::noted_mode))]
-fn precharge(c: Config, ages: &mut [u8; 16], opened: &mut [bool; 4], i: u16, bank: Bank) -> Carried
+#[tactic(auto, using(crate::proofs::Laws::sent, crate::proofs::Laws::refused, aging::proofs::Slot::noted_nop), unfolding(plan::specs::Plan::tries))]
+fn precharge(c: Config, past: &mut Past, i: u16, bank: Bank) -> Carried
     requires { Shaped c.geometry }
-    ensures { ConductedBy c ages.old opened.old ages.new opened.new (tries (Pre bank) (Access i) (Access i)) result }
+    ensures { Conducted c past.old past.new (tries (Pre bank) (Access i) (Access i)) result }
 {
-    if legality::pre_legal(c, ages, opened, bank) {
-        aging::note_pre(ages, opened, bank);
+    if legality::pre_legal(c, past, bank) {
+        aging::note_pre(past, bank);
         return quiet(Command::Pre(bank), Action::Access(i));
     }
     rest(Action::Access(i))
 }
 
 // The ACT for the request at place i.
-#[tactic(auto, using(crate::proofs::Laws::sent, crate::proofs::Laws::refused), unfolding(plan::specs::Plan::tries, aging::specs::Noted::noted_of, aging::specs::Noted::noted_ages, aging::specs::Noted::noted_open, aging::specs::Noted::noted_rows, aging::specs::Noted::noted_mode))]
-fn activate(
-    c: Config,
-    ages: &mut [u8; 16],
-    opened: &mut [bool; 4],
-    rows: &mut [u16; 4],
-    programmed: bool,
-    i: u16,
-    bank: Bank,
-    row: Row,
-) -> Carried
+#[tactic(auto, using(crate::proofs::Laws::sent, crate::proofs::Laws::refused, aging::proofs::Slot::noted_nop), unfolding(plan::specs::Plan::tries))]
+fn activate(c: Config, past: &mut Past, i: u16, bank: Bank, row: Row) -> Carried
     requires { Shaped c.geometry }
-    ensures { Conducted c (past_of ages.old opened.old rows.old programmed) (past_of ages.new opened.new rows.new programmed) (tries (Act bank row) (Access i) (Access i)) result }
+    ensures { Conducted c past.old past.new (tries (Act bank row) (Access i) (Access i)) result }
 {
-    if legality::act_legal(c, ages, opened, programmed, bank, row) {
-        aging::note_act(ages, opened, rows, bank, row);
+    if legality::act_legal(c, past, bank, row) {
+        aging::note_act(past, bank, row);
         return quiet(Command::Act(bank, row), Action::Access(i));
     }
     rest(Action::Access(i))
@@ -239,88 +221,62 @@ fn activate(
 
 // The access's next command: PRE, ACT, or READ or WRT.
 #[tactic(auto, unfolding(plan::specs::Plan::access_plan, ages::specs::Ages::open_rows))]
-fn access_to(
-    c: Config,
-    ages: &mut [u8; 16],
-    opened: &mut [bool; 4],
-    rows: &mut [u16; 4],
-    programmed: bool,
-    places: &[u32; 24],
-    i: u16,
-    cell: Cell,
-) -> Carried
+fn access_to(c: Config, past: &mut Past, queue: &Queue, i: u16, cell: Cell) -> Carried
     requires { Shaped c.geometry }
-    ensures { Conducted c (past_of ages.old opened.old rows.old programmed) (past_of ages.new opened.new rows.new programmed) (access_plan c (open_rows opened.old rows.old cell.bank.0) i (request_at places.now i) cell) result }
+    ensures { Conducted c past.old past.new (access_plan c (row_at past.old cell.bank.0) i (request_at queue.now.places i) cell) result }
 {
     let bank = cell.bank;
     let row = cell.row;
-    if ages::is_open(opened, bank) {
-        let open_row = ages::row_in(rows, bank);
-        if open_row.0 == row.0 {
-            return transfer(c, ages, opened, places, i, cell);
-        }
-        return precharge(c, ages, opened, i, bank);
+    match past.open_row(bank) {
+        Some(open) if open.0 == row.0 => transfer(c, past, queue, i, cell),
+        Some(_) => precharge(c, past, i, bank),
+        None => activate(c, past, i, bank, row),
     }
-    activate(c, ages, opened, rows, programmed, i, bank, row)
 }
 
 // The access of the request at place i: to the cell of its address.
 #[tactic(auto, unfolding(plan::specs::Plan::plan_of))]
-fn access(
-    c: Config,
-    ages: &mut [u8; 16],
-    opened: &mut [bool; 4],
-    rows: &mut [u16; 4],
-    programmed: bool,
-    places: &[u32; 24],
-    i: u16,
-) -> Carried
+fn access(c: Config, past: &mut Past, queue: &Queue, i: u16) -> Carried
     requires { Shaped c.geometry }
-    ensures { Conducted c (past_of ages.old opened.old rows.old programmed) (past_of ages.new opened.new rows.new programmed) (plan_of c (by_ages c (past_of ages.old opened.old rows.old programmed)) (request_at places.now i) (Access i) 0) result }
+    ensures { Conducted c past.old past.new (plan_of c (by_ages c past.old) (request_at queue.now.places i) (Access i) 0) result }
 {
-    let asked = places::request_at(places, i);
+    let asked = queue.request_at(i);
     let geometry = c.geometry;
     let cell = asked.cell(geometry);
-    access_to(c, ages, opened, rows, programmed, places, i, cell)
+    access_to(c, past, queue, i, cell)
 }
 
 // DEAC, and then `next`; until it is legal, `stays`.
-#[tactic(auto, using(crate::proofs::Laws::sent, crate::proofs::Laws::refused), unfolding(plan::specs::Plan::tries, aging::specs::Noted::noted_of, aging::specs::Noted::noted_ages, aging::specs::Noted::noted_open, aging::specs::Noted::noted_rows, aging::specs::Noted::noted_mode))]
-fn precharge_all(
-    c: Config,
-    ages: &mut [u8; 16],
-    opened: &mut [bool; 4],
-    stays: Action,
-    next: Action,
-) -> Carried
-    ensures { ConductedBy c ages.old opened.old ages.new opened.new (tries Deac stays next) result }
+#[tactic(auto, using(crate::proofs::Laws::sent, crate::proofs::Laws::refused, aging::proofs::Slot::noted_nop), unfolding(plan::specs::Plan::tries))]
+fn precharge_all(c: Config, past: &mut Past, stays: Action, next: Action) -> Carried
+    ensures { Conducted c past.old past.new (tries Deac stays next) result }
 {
-    if legality::deac_legal(c, ages, opened) {
-        aging::note_deac(ages, opened);
+    if legality::deac_legal(c, past) {
+        aging::note_deac(past);
         return quiet(Command::Deac, next);
     }
     rest(stays)
 }
 
 // One of the initialisation's REFRs, of which so many are left.
-#[tactic(auto, using(crate::proofs::Laws::sent, crate::proofs::Laws::refused), unfolding(plan::specs::Plan::tries, aging::specs::Noted::noted_of, aging::specs::Noted::noted_ages, aging::specs::Noted::noted_open, aging::specs::Noted::noted_rows, aging::specs::Noted::noted_mode))]
-fn init_refresh(c: Config, ages: &mut [u8; 16], opened: &[bool; 4], n: u16) -> Carried
-    ensures { ConductedBy c ages.old opened.now ages.new opened.now (tries Refr (InitRefresh n) (after_init_refresh n)) result }
+#[tactic(auto, using(crate::proofs::Laws::sent, crate::proofs::Laws::refused, aging::proofs::Slot::noted_nop), unfolding(plan::specs::Plan::tries))]
+fn init_refresh(c: Config, past: &mut Past, n: u16) -> Carried
+    ensures { Conducted c past.old past.new (tries Refr (InitRefresh n) (after_init_refresh n)) result }
 {
-    if legality::refr_legal(c, ages, opened) {
-        aging::note_refr(ages);
+    if legality::refr_legal(c, past) {
+        aging::note_refr(past);
         return quiet(Command::Refr, after_init_refresh(n));
     }
     rest(Action::InitRefresh(n))
 }
 
 // The REFR of a refresh.
-#[tactic(auto, using(crate::proofs::Laws::sent, crate::proofs::Laws::refused), unfolding(plan::specs::Plan::refresh_plan, crate::specs::Serve::carried_with, aging::specs::Noted::noted_of, aging::specs::Noted::noted_ages, aging::specs::Noted::noted_open, aging::specs::Noted::noted_rows, aging::specs::Noted::noted_mode))]
-fn refresh_slot(c: Config, ages: &mut [u8; 16], opened: &[bool; 4]) -> Carried
-    ensures { ConductedBy c ages.old opened.now ages.new opened.now (refresh_plan c) result }
+#[tactic(auto, using(crate::proofs::Laws::sent, crate::proofs::Laws::refused, aging::proofs::Slot::noted_nop), unfolding(plan::specs::Plan::refresh_plan, crate::specs::Serve::carried_with))]
+fn refresh_slot(c: Config, past: &mut Past) -> Carried
+    ensures { Conducted c past.old past.new (refresh_plan c) result }
 {
-    if legality::refr_legal(c, ages, opened) {
-        aging::note_refr(ages);
+    if legality::refr_legal(c, past) {
+        aging::note_refr(past);
         return Carried {
             command: Command::Refr,
             action: refresh_cycle(c.rfc as u16),
@@ -333,57 +289,41 @@ fn refresh_slot(c: Config, ages: &mut [u8; 16], opened: &[bool; 4]) -> Carried
 }
 
 // The MRS of the initialisation.
-#[tactic(auto, using(crate::proofs::Laws::sent, crate::proofs::Laws::refused), unfolding(plan::specs::Plan::tries, aging::specs::Noted::noted_of, aging::specs::Noted::noted_ages, aging::specs::Noted::noted_open, aging::specs::Noted::noted_rows, aging::specs::Noted::noted_mode))]
-fn mode_slot(c: Config, ages: &mut [u8; 16], opened: &[bool; 4], programmed: &mut bool) -> Carried
-    ensures { (rows : List ℕ) → Conducted c (past_of ages.old opened.now rows programmed.old) (past_of ages.new opened.now rows programmed.new) (tries (Mrs (mode_word c)) InitMode InitSettle) result }
+#[tactic(auto, using(crate::proofs::Laws::sent, crate::proofs::Laws::refused, aging::proofs::Slot::noted_nop), unfolding(plan::specs::Plan::tries))]
+fn mode_slot(c: Config, past: &mut Past) -> Carried
+    ensures { Conducted c past.old past.new (tries (Mrs (mode_word c)) InitMode InitSettle) result }
 {
     let word = 16 * (c.latency as u16);
-    if legality::mrs_legal(c, ages, opened, word) {
-        aging::note_mrs(ages, programmed);
+    if legality::mrs_legal(c, past, word) {
+        aging::note_mrs(past);
         return quiet(Command::Mrs(word), Action::InitSettle);
     }
     rest(Action::InitMode)
 }
 
-// The slot of an action; `places` has its request, and `bus` is the halfword that the bus carries.
-#[tactic(auto, using(crate::proofs::Laws::rested, crate::proofs::Laws::awaited), unfolding(plan::specs::Plan::plan_of))]
-pub fn serve(
-    c: Config,
-    ages: &mut [u8; 16],
-    opened: &mut [bool; 4],
-    rows: &mut [u16; 4],
-    programmed: &mut bool,
-    places: &[u32; 24],
-    action: Action,
-    bus: u16,
-) -> Carried
+// The slot of an action; `queue` has its request, and `bus` is the halfword that the bus carries.
+#[tactic(auto, using(crate::proofs::Laws::rest_conducts, crate::proofs::Laws::latency_conducts, aging::proofs::Slot::noted_nop), unfolding(plan::specs::Plan::plan_of))]
+pub fn serve(c: Config, past: &mut Past, queue: &Queue, action: Action, bus: u16) -> Carried
     requires { Shaped c.geometry }
-    ensures { Conducted c (past_of ages.old opened.old rows.old programmed.old) (past_of ages.new opened.new rows.new programmed.new) (plan_of c (by_ages c (past_of ages.old opened.old rows.old programmed.old)) (request_at places.now (under_way action)) action bus) result }
+    ensures { Conducted c past.old past.new (plan_of c (by_ages c past.old) (request_at queue.now.places (under_way action)) action bus) result }
 {
     match action {
         Action::PowerUp(n) => rest(after_pause(n)),
         Action::InitPrecharge => precharge_all(
             c,
-            ages,
-            opened,
+            past,
             Action::InitPrecharge,
             Action::InitRefresh(8),
         ),
-        Action::InitRefresh(n) => init_refresh(c, ages, opened, n),
-        Action::InitMode => mode_slot(c, ages, opened, programmed),
+        Action::InitRefresh(n) => init_refresh(c, past, n),
+        Action::InitMode => mode_slot(c, past),
         Action::InitSettle => rest(Action::Idle),
         Action::Idle => rest(Action::Idle),
-        Action::Access(i) => access(c, ages, opened, rows, *programmed, places, i),
-        Action::CasLatency(i, left) => latency(i, left, places, bus),
+        Action::Access(i) => access(c, past, queue, i),
+        Action::CasLatency(i, left) => latency(i, left, queue, bus),
         Action::Turnaround => rest(Action::Idle),
-        Action::PrechargeAll => precharge_all(
-            c,
-            ages,
-            opened,
-            Action::PrechargeAll,
-            Action::Refresh,
-        ),
-        Action::Refresh => refresh_slot(c, ages, opened),
+        Action::PrechargeAll => precharge_all(c, past, Action::PrechargeAll, Action::Refresh),
+        Action::Refresh => refresh_slot(c, past),
         Action::RefreshCycle(left) => rest(refresh_cycle(left)),
     }
 }
