@@ -26,14 +26,6 @@ queued n i h = go (dec_le 8 n)
     go (yes k) = let m : i < 8 = rw (le-leb 8 n k) at h in (omega arith, m)
     go (no k) = let m : i < n = rw (lt-leb 8 n (omega arith)) at h in (m, omega arith)
 
-pub below_held : (i n : ℕ) → i < n → i < 8 → i < held_count n
-unfolding held_count
-below_held i n h k = go (dec_le 8 n)
-  where
-    go : Dec (8 ≤ n) → i < held_count n
-    go (yes m) = rw (le-leb 8 n m) k
-    go (no m) = rw (lt-leb 8 n (omega arith)) h
-
 -- how many are queued
 pub length_held : (l : List ℕ) (n : ℕ) → length (take n (requests_in l)) ≡ held_count n
 unfolding held_count

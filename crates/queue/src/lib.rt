@@ -25,7 +25,8 @@ pub struct Request {
 }
 
 // Oldest first, in eight places. The array has the requests' eight numbers, then their eight addresses, then their eight halfwords, a write's with 65,536
-// added: an array of numbers can be lent and changed in place. A place from count on has zeros, the blank request.
+// added. A place from count on has zeros, the blank request. Numbers and no [Request; 8]: `request_in` and `data_of` read them, and an array of requests
+// was slower (docs/PERFORMANCE.md). A count beside them, unbounded: a record with more than eight gets number 9 (`sound_of`).
 #[derive(Clone, Copy)]
 pub struct Queue {
     pub places: [u32; 24],
@@ -92,10 +93,7 @@ impl Queue {
     pub fn held(&self) -> u32
         ensures { result ≡ held_count self.now.count }
     {
-        if 8 <= self.count {
-            return 8;
-        }
-        self.count
+        self.count.min(8)
     }
 
     // The kind of the request at a place.
@@ -169,8 +167,6 @@ impl Queue {
         ensures { self.new ≡ remove_of self.old at }
     {
         self.shift(at);
-        if self.count != 0 {
-            self.count -= 1;
-        }
+        self.count = self.count.saturating_sub(1);
     }
 }

@@ -93,7 +93,7 @@ impl Counters {
 }
 
 // The urgency of a backlog.
-#[tactic(auto, using(crate::proofs::Levels::level_at))]
+#[tactic(auto, unfolding(crate::specs::Urgency::level_of))]
 pub fn urgency(backlog: u8) -> Level
     ensures { result ≡ level_of backlog }
 {

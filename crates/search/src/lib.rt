@@ -1,7 +1,7 @@
 // Owns the search for the oldest unblocked read and write (document 01, "A service slot", rules 2 and 4; `queue` has the definitions).
 #![tactic(auto)]
 
-ghost use Rattle.queue.specs.Places.{requests_in, held_of};
+ghost use Rattle.queue.specs.Places.{requests_in, held_of, held_count};
 ghost use Rattle.queue.specs.Oldest.{shared_by, ready_of, oldest_of};
 ghost use Rattle.std.specs.Prelude.{take, ◌≡◌, ◌≤◌, ◌<◌};
 
@@ -21,17 +21,17 @@ fn shared(queue: &Queue, end: usize, wanted: u32) -> bool
     false
 }
 
-// Is the request at a place an unblocked one of this kind, where it is one of those queued?
-#[tactic(auto, using(queue::proofs::Array::request_in_lem, queue::proofs::Walks::below_held, queue::proofs::Walks::length_held), unfolding(queue::specs::Oldest::ready_of, queue::specs::Oldest::blocked_of))]
+// Is the request at a place, one of those queued, an unblocked one of this kind?
+#[tactic(auto, using(crate::proofs::AtPlace::held_eight, crate::proofs::AtPlace::ready_at))]
 fn ready(queue: &Queue, kind: Kind, at: usize) -> bool
-    requires { at < 8 }
-    ensures { at < queue.now.count → result ≡ ready_of kind (held_of queue.now) at }
+    requires { at < held_count queue.now.count }
+    ensures { result ≡ ready_of kind (held_of queue.now) at }
 {
     queue.kind_at(at) == kind && !shared(queue, at, address::block(queue.address_at(at)))
 }
 
 // The place of the oldest unblocked request of a kind (document 01, rules 2 and 4).
-#[tactic(auto, using(queue::proofs::Walks::queued, queue::proofs::Walks::length_held, queue::proofs::Walks::first_step, queue::proofs::Walks::first_end), unfolding(queue::specs::Oldest::oldest_of))]
+#[tactic(auto, using(crate::proofs::AtPlace::held_eight, queue::proofs::Walks::length_held, queue::proofs::Walks::first_step, queue::proofs::Walks::first_end), unfolding(queue::specs::Oldest::oldest_of))]
 pub fn oldest(queue: &Queue, kind: Kind) -> Option<u16>
     ensures { result ≡ oldest_of kind (held_of queue.now) }
 {
