@@ -53,12 +53,6 @@ onwards_next i slots c p n x q bus commands reports h hb hk hr {t} e =
       e,
     )
 
--- the past's arrays keep their lengths
-pub stepped_lengths : (c : Config) (p : Past) (n : Counters) (x : Control) (q : Queue) (bus : ℕ) {t : Parts} → t ≡ stepped_of c p n x q bus
-    → (length t.past.ages ≡ 16) × (length t.past.opened ≡ 4) × (length t.past.rows ≡ 4)
-unfolding stepped_of sent_of ages_after
-stepped_lengths c p n x q bus e = rw e (refl, refl, refl)
-
 -- none is left
 pub onwards_end : (i slots : ℕ) (c : Config) (p : Past) (n : Counters) (x : Control) (q : Queue) (bus commands reports : List ℕ) → i ≡ slots
     → record { past = p; counters = n; control = x; queue = q; commands = commands; reports = reports } ≡ onwards i slots c p n x q bus commands reports

@@ -2,7 +2,7 @@
 // the action, the queue and the past after it. The parts are lent, and changed in place.
 #![tactic(auto)]
 
-ghost use Rattle.std.specs.Prelude.{◌≡◌};
+ghost use Rattle.std.specs.Prelude.{◌≡◌, length};
 ghost use Rattle.config.specs.Accepted.{Shaped};
 ghost use Rattle.plan.specs.Actions.{under_way};
 ghost use Rattle.plan.specs.Plan.{queue_after};
@@ -25,6 +25,11 @@ pub struct Turned {
     pub sent: u64,
     pub told: u64,
 }
+
+// How long the past's arrays are, which a proof knows of a value, and not of what is lent. It does nothing.
+fn lengths(past: Past)
+    ensures { (length past.ages ≡ 16) × (length past.opened ≡ 4) × (length past.rows ≡ 4) }
+{}
 
 // The slot's counters: the interval falls in a service slot.
 #[tactic(auto, unfolding(plan::specs::Slot::ticked_of))]
@@ -61,6 +66,7 @@ pub fn step(
     ensures parts { gathered past.new counters.new control.new queue.new result ≡ stepped_of c past.old counters.old control.old queue.old bus }
     ensures words { (result.sent ≡ command_word result.command) × (result.told ≡ report_word result.report) }
 {
+    lengths(*past);
     let ticked = ticked(c, *counters, control.action);
     let run = choice::must_after(control.action, control.must, ticked.backlog);
     let current = choice::current(control.action, run, ticked.backlog, queue, past);
