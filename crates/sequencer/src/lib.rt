@@ -7,6 +7,7 @@ ghost use Rattle.sequencer.specs.Machine.{machine_with, blank_of, machine_of};
 ghost use Rattle.sequencer.specs.Calls.{
   configured_by,
   configure_of,
+  record_number_of,
   request_number_of,
   halfword_for,
   queued_request,
