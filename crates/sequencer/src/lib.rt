@@ -201,13 +201,17 @@ impl Machine {
     fn accept(self, request: Request) -> Requested
         ensures { result ≡ enqueued_of self request }
     {
-        let mut machine = self;
-        machine.queue.accept(request);
-        machine.accepted = request.number;
+        // A queue of its own, which the compiler can keep apart from the rest of the machine.
+        let mut queue = self.queue;
+        queue.accept(request);
         Requested {
+            machine: Machine {
+                queue,
+                accepted: request.number,
+                ..self
+            },
             number: 0,
             request: request.number,
-            machine,
         }
     }
 
@@ -266,19 +270,29 @@ impl Machine {
     pub fn slot(self, bus: u16) -> Slot
         ensures { result ≡ slot_of self bus }
     {
-        let mut machine = self;
         let number = self.record_number();
+        // The parts as locals, and the machine built once, at the end, for a refused slot too: lent as its fields, the whole machine would be copied.
+        let mut past = self.past;
+        let mut counters = self.counters;
+        let mut control = self.control;
+        let mut queue = self.queue;
         let turned = turn::turn(
             number,
             self.config,
-            &mut machine.past,
-            &mut machine.counters,
-            &mut machine.control,
-            &mut machine.queue,
+            &mut past,
+            &mut counters,
+            &mut control,
+            &mut queue,
             bus,
         );
         Slot {
-            machine,
+            machine: Machine {
+                queue,
+                past,
+                counters,
+                control,
+                ..self
+            },
             number,
             command: turned.command,
             report: turned.report,
@@ -291,22 +305,31 @@ impl Machine {
     pub fn slots(self, bus: &[u16], commands: &mut [u64], reports: &mut [u64]) -> Slots
         ensures { gathered result commands.new reports.new ≡ many_slots_of self bus.now commands.old reports.old }
     {
-        let mut machine = self;
         let number = self.record_number();
         let count = room(number, bus.len(), commands.len(), reports.len());
+        let mut past = self.past;
+        let mut counters = self.counters;
+        let mut control = self.control;
+        let mut queue = self.queue;
         batch::run(
             count,
             self.config,
-            &mut machine.past,
-            &mut machine.counters,
-            &mut machine.control,
-            &mut machine.queue,
+            &mut past,
+            &mut counters,
+            &mut control,
+            &mut queue,
             bus,
             commands,
             reports,
         );
         Slots {
-            machine,
+            machine: Machine {
+                queue,
+                past,
+                counters,
+                control,
+                ..self
+            },
             number,
             count,
         }
