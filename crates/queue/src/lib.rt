@@ -136,14 +136,16 @@ impl Queue {
     pub fn accept(&mut self, request: Request)
         ensures { self.new ≡ accept_of self.old request }
     {
-        if 8 <= self.count {
+        // Read once: behind a store to the places the compiler would read it again.
+        let count = self.count;
+        if 8 <= count {
             return;
         }
-        let i = self.count as usize;
+        let i = count as usize;
         self.places[i] = request.number;
         self.places[8 + i] = request.address;
         self.places[16 + i] = data_word(request.kind, request.halfword);
-        self.count += 1;
+        self.count = count + 1;
     }
 
     // The younger requests than the one at a place move up to it, and the last place becomes blank.
@@ -166,7 +168,7 @@ impl Queue {
     pub fn remove(&mut self, at: u16)
         ensures { self.new ≡ remove_of self.old at }
     {
-        self.shift(at);
         self.count = self.count.saturating_sub(1);
+        self.shift(at);
     }
 }

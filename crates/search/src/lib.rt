@@ -35,8 +35,8 @@ fn ready(queue: &Queue, kind: Kind, at: usize) -> bool
 pub fn oldest(queue: &Queue, kind: Kind) -> Option<u16>
     ensures { result ≡ oldest_of kind (held_of queue.now) }
 {
-    for i in 0..queue.held() {
-        if ready(queue, kind, i as usize) {
+    for i in 0..queue.held() as usize {
+        if ready(queue, kind, i) {
             return Some(i as u16);
         }
     }
