@@ -72,7 +72,7 @@ impl Stamps {
         0 < self.last[9]
     }
 
-    // What each command leaves, and the slot behind it.
+    // What each command leaves, and the slot behind it. One function for each and none for any: the judge makes no `Command` of a record (docs/PERFORMANCE.md).
 
     #[tactic(auto, using(crate::proofs::Noted::act_noted))]
     pub fn note_act(&mut self, bank: Bank)

@@ -50,6 +50,7 @@ fn take_run(past: &mut Stamps, tape: &[u8], p: Cursor) -> Option<Cursor>
     })
 }
 
+// One function for each command: they differ in the body's bytes and in the test, and one that takes both by a closure is no plainer.
 #[tactic(auto, using(device::proofs::Tests::told, crate::proofs::Records::act_four, crate::proofs::Records::act_step, crate::proofs::Records::cut_halts, crate::proofs::Records::legal_sent, crate::proofs::Records::illegal_halts), unfolding(tape::specs::Reading::body_length))]
 fn take_act(c: Config, past: &mut Stamps, tape: &[u8], p: Cursor) -> Option<Cursor>
     requires { Accepted c × (past.old.clock < 2 ^ 62) × Here tape.now p 1 }

@@ -6,7 +6,6 @@ use mathlib.Core.List.{List, ◌++◌}
 use Rattle.std.specs.Prelude.{Some, None}
 use native.Mathlib.Omega.{arith}
 use Rattle.device.specs.Rules.{Requirement}
-use Rattle.violation.specs.declared.Violation.{Violation}
 use Rattle.violation.proofs.Grid.{first_of, from_bank, from_rule}
 
 module _ (f : ℕ → ℕ → Requirement) (rule : ℕ) where

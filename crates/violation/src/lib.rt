@@ -59,7 +59,8 @@ fn own_apart(c: Config, past: &Stamps, own: Bank, bank: u8) -> bool
     bank != own.0 || tape_legality::all_apart(c, past, own.0)
 }
 
-// Does a rule hold for a bank? One function for each command; what a command doesn't have to keep holds.
+// Does a rule hold for a bank? One function for each command; what a command doesn't have to keep holds. Rules are numbers here, and no enum: they are the paper's own
+// numbers, and the walk counts them.
 
 #[tactic(auto, unfolding(crate::specs::Walk::act_holds))]
 fn act_holds(c: Config, past: &Stamps, own: Bank, row: Row, rule: u8, bank: u8) -> bool

@@ -1,5 +1,5 @@
 -- Both loops keep: what is left of the rules and banks gives what all of them give, and nothing was found so far.
-use Prim.Native.Nat.{◌-◌, ◌≤◌, suc}
+use Prim.Native.Nat.{◌-◌, suc}
 use mathlib.Core.Path.{◌≡◌}
 use mathlib.Core.List.{◌++◌}
 use Rattle.std.specs.Prelude.{None}
