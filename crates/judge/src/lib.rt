@@ -63,9 +63,8 @@ fn illegal(c: Config, last: &[u64; 16], clock: u64, command: Command, tape: &[u8
     ensures value { result ≡ illegal_by c last.now clock command (contents_of tape.now).last }
     ensures slot_bound { result.slot < 2 ^ 40 }
 {
-    let scanned = tape_scan::scan(tape);
-    if scanned.number != 0 {
-        return said(scanned.number);
+    if let Err(refused) = tape_scan::scan(tape) {
+        return said(refused.why.number());
     }
     let violation = violation::first(c, last, clock, command);
     Verdict {
@@ -92,7 +91,7 @@ fn judged(c: Config, tape: &[u8]) -> Verdict
         Item::Command(command) => illegal(c, &last, p.clock, command, tape),
         // At a run no judge halts.
         Item::Run(_) => said(0),
-        Item::Refused(why, _) => said(tape_scan::number(why)),
+        Item::Refused(why, _) => said(why.number()),
     }
 }
 
