@@ -14,7 +14,7 @@ ghost use Rattle.judge.specs.Halted.{illegal_by, halted_at, Halts};
 use command::Command;
 use config::Config;
 use stamps::Stamps;
-use tape::Item;
+use tape::{Item, Refusal};
 use tape_cursor::Cursor;
 use violation::Violation;
 
@@ -33,7 +33,7 @@ pub enum JudgeError {
     // 19: the tape is longer than `LONGEST`.
     TooLong,
     // 11 to 13: a record is refused.
-    Record(u8),
+    Record(Refusal),
 }
 
 impl JudgeError {
@@ -44,7 +44,7 @@ impl JudgeError {
         match self {
             JudgeError::Configuration(number) => number,
             JudgeError::TooLong => 19,
-            JudgeError::Record(number) => number,
+            JudgeError::Record(why) => why.number(),
         }
     }
 }
@@ -80,9 +80,8 @@ fn illegal(
     ensures slot_bound { (verdict_in result).slot < 2 ^ 40 }
     ensures from_1 { IfOk result (λ o. IfSome o (λ x. 1 ≤ x.slot)) }
 {
-    let scanned = tape_scan::scan(tape);
-    if scanned.number != 0 {
-        return Err(JudgeError::Record(scanned.number));
+    if let Err(refused) = tape_scan::scan(tape) {
+        return Err(JudgeError::Record(refused.why));
     }
     match violation::first(c, past, command) {
         Some(violation) => Ok(Some(IllegalSlot {
@@ -107,11 +106,10 @@ fn judged(c: Config, tape: &[u8]) -> Result<Option<IllegalSlot>, JudgeError>
     let found = tape_decoder::read_at(tape, p.at, p.before);
     let item = found.item;
     match item {
-        Item::End => Ok(None),
-        Item::Command(command) => illegal(c, &past, command, tape),
         // At a run no judge halts.
-        Item::Run(_) => Ok(None),
-        Item::Refused(why, _) => Err(JudgeError::Record(tape_scan::number(why))),
+        Item::End | Item::Run(_) => Ok(None),
+        Item::Command(command) => illegal(c, &past, command, tape),
+        Item::Refused(why, _) => Err(JudgeError::Record(why)),
     }
 }
 
