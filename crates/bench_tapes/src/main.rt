@@ -62,11 +62,9 @@ fn word(x: u32) -> u64 {
 // Words of a fixed pseudo-random stream.
 fn fill(words: &mut [u64]) {
     let mut x = 2463534242;
-    let mut i = 0;
-    while i < words.len() {
+    for place in words.iter_mut() {
         x = shuffle(x);
-        words[i] = word(x);
-        i += 1;
+        *place = word(x);
     }
 }
 
@@ -121,30 +119,27 @@ fn read_all(digest: u32, tape: &[u8]) -> u32 {
 
 // The byte at a place, 0 where the tape has none.
 fn byte_at(tape: &[u8], at: usize) -> u8 {
-    if at < tape.len() {
-        return tape[at];
-    }
-    0
+    tape.get(at).copied().unwrap_or(0)
 }
 
 fn put(words: &mut [u64], at: usize, word: u64) {
-    if at < words.len() {
-        words[at] = word;
+    if let Some(place) = words.get_mut(at) {
+        *place = word;
     }
 }
 
 // Writes the tape of the words, and changes one of them: else the same tape would be written every time.
 fn written(before: Bench, words: &mut [u64], tape: &mut [u8]) -> Bench {
-    let made = tape_writer::write(words, tape);
-    let answered = mix(
-        mix(before.digest, made.number as u32),
-        (made.length % 65536) as u32,
-    );
+    let (number, length) = match tape_writer::write(words, tape) {
+        Ok(length) => (0, length),
+        Err(why) => (why.number(), 0),
+    };
+    let answered = mix(mix(before.digest, number as u32), (length % 65536) as u32);
     let digest = mix(answered, byte_at(tape, (answered % 65536) as usize) as u32);
     put(words, (digest % 16384) as usize, word(digest));
     Bench {
-        length: made.length,
-        bytes: std::num::wrapping_add_u64(before.bytes, made.length as u64),
+        length,
+        bytes: std::num::wrapping_add_u64(before.bytes, length as u64),
         digest,
     }
 }
@@ -155,9 +150,9 @@ fn read(before: Bench, tape: &[u8]) -> Bench {
         return before;
     }
     Bench {
-        length: before.length,
         bytes: std::num::wrapping_add_u64(before.bytes, before.length as u64),
         digest: read_all(before.digest, &tape[..before.length]),
+        ..before
     }
 }
 
@@ -171,16 +166,13 @@ fn turn(before: Bench, words: &mut [u64], tape: &mut [u8]) -> Bench {
 
 fn run(words: &mut [u64], tape: &mut [u8]) -> Bench {
     fill(words);
-    let first = tape_writer::write(words, tape);
     let mut bench = Bench {
-        length: first.length,
+        length: tape_writer::write(words, tape).unwrap_or(0),
         bytes: 0,
         digest: 1,
     };
-    let mut n: u32 = 0;
-    while n < TIMES {
+    for _ in 0..TIMES {
         bench = turn(bench, words, tape);
-        n += 1;
     }
     // So that the digest has all bytes of the last tape.
     read(bench, tape)

@@ -7,7 +7,7 @@ ghost use Rattle.std.specs.Prelude.{◌<◌, ◌≤◌, length};
 use answer::Answer;
 use output::{Out, fail, large_buffer, say};
 use std::io::Read;
-use tape_scan::{Scanned, scan};
+use tape_scan::{Refused, scan};
 use text::Text;
 
 // The most bytes of a tape.
@@ -19,11 +19,11 @@ const CUT: u64 = 0x637574;
 const CHANGE: u64 = 0x6368616e6765;
 
 // What a tape gives.
-fn verdict(scanned: Scanned) -> Text {
-    if scanned.number == 0 {
-        return Answer::Ended(scanned.slots).line();
+fn verdict(scanned: Result<u64, Refused>) -> Text {
+    match scanned {
+        Ok(slots) => Answer::Ended(slots).line(),
+        Err(refused) => Answer::Refused(refused.why.number(), refused.place as u64).line(),
     }
-    Answer::Refused(scanned.number, scanned.place as u64).line()
 }
 
 // A word and a number, each with a space after it.
@@ -34,11 +34,9 @@ fn begun(letters: u64, n: u64) -> Text {
 // Every front part of a tape.
 fn cuts(rt: &(impl Print + Eprint), out: Out, tape: &[u8], output: &mut [u8]) -> Out {
     let mut out = out;
-    let mut kept = 0;
-    while kept <= tape.len() {
+    for kept in 0..=tape.len() {
         out = say(rt, out, begun(CUT, kept as u64), output);
         out = say(rt, out, verdict(scan(&tape[..kept])), output);
-        kept += 1;
     }
     out
 }
@@ -54,17 +52,15 @@ fn values(
     requires { place < length tape.old }
 {
     let mut out = out;
-    let mut value = 0;
-    while value < 256 {
-        tape[place] = value as u8;
+    for value in 0..=u8::MAX {
+        tape[place] = value;
         out = say(
             rt,
             out,
-            begun(CHANGE, place as u64).decimal(value).byte(32),
+            begun(CHANGE, place as u64).decimal(value as u64).byte(32),
             output,
         );
         out = say(rt, out, verdict(scan(tape)), output);
-        value += 1;
     }
     out
 }
@@ -72,12 +68,10 @@ fn values(
 // And at every place.
 fn changes(rt: &(impl Print + Eprint), out: Out, tape: &mut [u8], output: &mut [u8]) -> Out {
     let mut out = out;
-    let mut place = 0;
-    while place < tape.len() {
+    for place in 0..tape.len() {
         let byte = tape[place];
         out = values(rt, out, tape, place, output);
         tape[place] = byte;
-        place += 1;
     }
     out
 }
@@ -106,10 +100,7 @@ fn read_full(rt: &impl Input, input: &mut [u8]) -> usize
     let mut reader = rt.reader();
     let mut done = 0;
     while done < input.len() {
-        let got = match reader.read(&mut input[done..]) {
-            Ok(got) => got,
-            Err(_) => 0,
-        };
+        let got = reader.read(&mut input[done..]).unwrap_or(0);
         if got == 0 {
             return done;
         }

@@ -9,8 +9,7 @@ use Rattle.device.specs.Rules.{R7, R12-open, R13-open, R14, R16, requirements, l
 use Rattle.device.specs.History.{last, open_row, start_log, fed}
 use Rattle.tape.specs.Reading.{body_length, command_of, wrong_run, record_number, record_at, kind_at, rest_at, step_of, contents_from}
 use Rattle.violation.specs.Violation.{violation_of}
-use Rattle.judge.specs.declared.Verdict.{Verdict}
-use Rattle.judge.specs.Judge.{first_illegal, judge_of}
+use Rattle.judge.specs.Judge.{Verdict, first_illegal, judge_of}
 
 pub record Example : Type 0 where
   pub cfg : ℕ

@@ -18,8 +18,7 @@ use Rattle.tape.specs.Reading.{Answer, end, command, run, refusal, goes_on, cont
 use Rattle.tape.proofs.Steps.{steps}
 use Rattle.violation.specs.declared.Violation.{Violation}
 use Rattle.violation.specs.Violation.{violation_of}
-use Rattle.judge.specs.declared.Verdict.{Verdict}
-use Rattle.judge.specs.Judge.{said_of, illegal_at, first_illegal, refused_or, judged_of, longest, judge_of}
+use Rattle.judge.specs.Judge.{Verdict, said_of, illegal_at, first_illegal, refused_or, judged_of, longest, judge_of}
 use Rattle.judge.specs.Laws.{fed_all, log_at, command_at, NoneRejected, Readable, Legal, Illegal, Judges}
 use Rattle.judge.proofs.Refusals.{Numbered, numbered_tape}
 

@@ -12,8 +12,7 @@ use Rattle.device.proofs.Tests.{if_both}
 use Rattle.tape.specs.Reading.{Answer, end, command, run, refusal, step_of, goes_on, Contents, contents_from, contents_of}
 use Rattle.tape.proofs.Steps.{steps}
 use Rattle.tape_scan.specs.Scan.{stopped_of, scanned_of}
-use Rattle.judge.specs.declared.Verdict.{Verdict}
-use Rattle.judge.specs.Judge.{said_of, refused_or}
+use Rattle.judge.specs.Judge.{Verdict, said_of, refused_or}
 
 pub set_accepted : (cfg row ref tim : ℕ) (s : Setting) → s ≡ setting_of cfg row ref tim → s.number ≡ 0 → Accepted s.config
 set_accepted cfg row ref tim s e z =

@@ -9,7 +9,13 @@ use Rattle.device.specs.History.{Log, start_log, by_history, allowed, fed}
 use Rattle.tape.specs.Reading.{Answer, end, command, run, refusal, Contents, contents_of}
 use Rattle.violation.specs.declared.Violation.{Violation}
 use Rattle.violation.specs.Violation.{violation_of}
-use Rattle.judge.specs.declared.Verdict.{Verdict}
+
+-- What is said: a number of documents 01 and 02, and where it is 0 the first illegal slot, counted from 1, with its rule and bank; all 0 where every slot is legal.
+pub record Verdict : Type 0 where
+  pub number : ℕ
+  pub slot : ℕ
+  pub rule : ℕ
+  pub bank : ℕ
 
 -- a number without slot, rule and bank; 0 where all is legal
 abbrev pub said_of : ℕ → Verdict

@@ -2,3 +2,4 @@
 pub mod Judge
 pub mod Laws
 pub mod Halted
+pub mod Verdict

@@ -1,6 +1,6 @@
 -- What a program in C can read off the word.
 use Rattle.std.specs.Prelude.{◌/◌, ◌%◌, ◌^◌, ◌<◌, ◌≡◌}
-use Rattle.judge.specs.declared.Verdict.{Verdict}
+use Rattle.judge.specs.Judge.{Verdict}
 use Rattle.judge_c.specs.Word.{word_of, Fits}
 
 -- of every verdict whose parts have their places, as those of `girmutsab_judge` have by its contract

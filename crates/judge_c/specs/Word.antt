@@ -1,6 +1,6 @@
 -- The judge's answer to a program in C (document 02, (v)).
 use Rattle.std.specs.Prelude.{ℕ, ◌+◌, ◌*◌, ◌^◌, ◌<◌}
-use Rattle.judge.specs.declared.Verdict.{Verdict}
+use Rattle.judge.specs.Judge.{Verdict}
 
 -- one 64-bit word: from the low end a byte each for number, rule and bank, then the slot
 unfoldable pub word_of : Verdict → ℕ

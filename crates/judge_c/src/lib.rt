@@ -4,17 +4,24 @@
 
 ghost use Rattle.std.specs.Prelude.{◌<◌, ◌^◌, ◌≡◌};
 ghost use Rattle.judge.specs.Judge.{judge_of};
+ghost use Rattle.judge.specs.Verdict.{verdict_in};
 ghost use Rattle.judge_c.specs.Word.{word_of, Fits};
 
-use judge::Verdict;
+use judge::{IllegalSlot, JudgeError};
 
-// A verdict's word. Each of its parts has its place.
+// An answer's word. Each of its parts has its place.
 #[tactic(auto, unfolding(crate::specs::Word::word_of))]
-fn word(v: Verdict) -> u64
-    requires { v.slot < 2 ^ 40 }
-    ensures { (result ≡ word_of v) × Fits v }
+fn word(answer: Result<Option<IllegalSlot>, JudgeError>) -> u64
+    requires { (verdict_in answer).slot < 2 ^ 40 }
+    ensures { (result ≡ word_of (verdict_in answer)) × Fits (verdict_in answer) }
 {
-    v.number as u64 + 256 * v.rule as u64 + 65536 * v.bank as u64 + 16777216 * v.slot
+    match answer {
+        Ok(None) => 0,
+        Ok(Some(IllegalSlot { slot, violation })) => {
+            256 * violation.rule as u64 + 65536 * violation.bank as u64 + 16777216 * slot
+        }
+        Err(why) => why.number() as u64,
+    }
 }
 
 // Judges a tape, `length` bytes from `tape` on in C; a null pointer with length 0 is an empty tape.

@@ -8,6 +8,8 @@ use borrow.Author.Tests.{ltb-false, le-ltb}
 use lib.Dec.{eqb, ltb}
 use lib.ListN.{length, take, drop, length-append, length-drop, length-map}
 use lib.Seq.{length-take-le, take-append_seam, take-append-add}
+use Rattle.std.specs.Prelude.{Result, Ok, Err}
+use Rattle.std.specs.Result.{result_unwrap_or}
 use Rattle.device.proofs.Tests.{if_both}
 use Rattle.output.specs.declared.Out.{Out}
 use Rattle.output.specs.Waiting.{kept_of}
@@ -17,7 +19,7 @@ use Rattle.command.specs.declared.Command.TheVariants.{Nop, Act, Read, Wrt, Pre,
 use Rattle.packing.specs.Packing.{command_in}
 use Rattle.tape.specs.Writing.{run_bytes, command_bytes, is_nop, Piece, slot_piece, piece_of, tape_after}
 use Rattle.tape_writer.specs.declared.Extended.{Extended}
-use Rattle.tape_writer.specs.declared.Written.{Written}
+use Rattle.tape_writer.specs.declared.WriteError.{WriteError}
 use Rattle.tape_writer.specs.Writer.{slots_in, all_pack, Outcome, front_of, written_of, Extending, extended_of, outcome_in, extending_in}
 use Rattle.recording.specs.Recording.{kept_in, Lent}
 
@@ -101,28 +103,48 @@ module _ (out : Out) (w : ℕ) (before : List ℕ) (room : 24579 ≤ length befo
   put : (bytes later rest : List ℕ) → take (w + length bytes) (take w before ++ ((bytes ++ later) ++ rest)) ≡ kept_in out before ++ bytes
   put bytes later rest = rw (← k) (behind w before bytes later rest (omega (arith, inside)))
 
+-- What a call answers, or where it is refused no bytes and the NOPs that waited, is what it gives.
+
+abbrev more_of : ℕ → Result Extended WriteError → Extended
+more_of n r = result_unwrap_or r (record { length = 0; pending = n })
+
+told : (n : ℕ) (r : Result Extended WriteError) (bytes : List ℕ)
+    → ((more_of n r).length ≡ (extending_in n r bytes).outcome.length)
+    × (bytes ≡ (extending_in n r bytes).outcome.bytes)
+    × ((more_of n r).pending ≡ (extending_in n r bytes).pending)
+told n (Ok m) bytes = (refl, refl, refl)
+told n (Err why) bytes = (refl, refl, refl)
+
+told_end : (r : Result ℕ WriteError) (bytes : List ℕ) → (result_unwrap_or r 0 ≡ (outcome_in r bytes).length) × (bytes ≡ (outcome_in r bytes).bytes)
+told_end (Ok length) bytes = (refl, refl)
+told_end (Err why) bytes = (refl, refl)
+
 -- the records of a row
 module _
-    (out : Out) (n w : ℕ) (words before last rest : List ℕ) (l : Lent words before) (k : w ≡ kept_of out 24579 (length before)) {r : Extended}
-    (e : extending_in r last ≡ extended_of n words (lent out w before l.room k)) where
-  gives : extending_in r last ≡ gone_on n words (lent out w before l.room k)
+    (out : Out) (n w : ℕ) (words before last rest : List ℕ) (l : Lent words before) (k : w ≡ kept_of out 24579 (length before))
+    (r : Result Extended WriteError) {m : Extended} (u : m ≡ more_of n r)
+    (e : extending_in n r last ≡ extended_of n words (lent out w before l.room k)) where
+  gives : extending_in n r last ≡ gone_on n words (lent out w before l.room k)
   gives = e ∙ extended n words (lent out w before l.room k) l.pack (fits out w before l.room k (piece_of n (slots_in words)).bytes (piece_room n words l.few))
 
-  pub added_bytes : take (w + r.length) (take w before ++ (last ++ rest)) ≡ kept_in out before ++ (piece_of n (slots_in words)).bytes
+  pub added_bytes : take (w + m.length) (take w before ++ (last ++ rest)) ≡ kept_in out before ++ (piece_of n (slots_in words)).bytes
   added_bytes =
-      rw (ap (λ (x : Extending). x.outcome.length) gives, ap (λ (x : Extending). x.outcome.bytes) gives) (put out w before l.room k _ _ rest)
+      let t = told n r last in
+      rw (u, t.0 ∙ ap (λ (x : Extending). x.outcome.length) gives, t.1 ∙ ap (λ (x : Extending). x.outcome.bytes) gives) (put out w before l.room k _ _ rest)
 
-  pub added_pending : r.pending ≡ (piece_of n (slots_in words)).pending
-  added_pending = ap (λ (x : Extending). x.pending) gives
+  pub added_pending : m.pending ≡ (piece_of n (slots_in words)).pending
+  added_pending = ap (λ (x : Extended). x.pending) u ∙ (told n r last).2 ∙ ap (λ (x : Extending). x.pending) gives
 
 -- the record of the NOPs that wait at the end
 module _
-    (out : Out) (n w : ℕ) (before last rest : List ℕ) (room : 24579 ≤ length before) (k : w ≡ kept_of out 24579 (length before)) {r : Written}
+    (out : Out) (n w : ℕ) (before last rest : List ℕ) (room : 24579 ≤ length before) (k : w ≡ kept_of out 24579 (length before))
+    (r : Result ℕ WriteError) {m : ℕ} (u : m ≡ result_unwrap_or r 0)
     (e : outcome_in r last ≡ written_of n [] (lent out w before room k)) where
-  pub ended_bytes : take (w + r.length) (take w before ++ (last ++ rest)) ≡ kept_in out before ++ run_bytes n
+  pub ended_bytes : take (w + m) (take w before ++ (last ++ rest)) ≡ kept_in out before ++ run_bytes n
   ended_bytes =
       let z = e ∙ finished n (lent out w before room k) (fits out w before room k (run_bytes n) (omega (arith, run_length n))) in
-      rw (ap (λ (x : Outcome). x.length) z, ap (λ (x : Outcome). x.bytes) z) (put out w before room k _ _ rest)
+      let t = told_end r last in
+      rw (u, t.0 ∙ ap (λ (x : Outcome). x.length) z, t.1 ∙ ap (λ (x : Outcome). x.bytes) z) (put out w before room k _ _ rest)
 
 -- What was written is no longer than what was lent.
 module _ (lent : List ℕ) where
@@ -141,8 +163,14 @@ module _ (lent : List ℕ) where
   unfolding extended_of
   extended_fits n words = if_both Fits (all_pack words) (λ _. front_fits (piece_of n (slots_in words)).bytes) (λ _. omega arith)
 
-pub no_longer : {r : Extended} {bytes : List ℕ} (n : ℕ) (words lent : List ℕ) → extending_in r bytes ≡ extended_of n words lent → r.length ≤ length lent
-no_longer n words lent e = rw (ap (λ (x : Extending). x.outcome.length) e) (extended_fits lent n words)
+pub no_longer : (r : Result Extended WriteError) (bytes : List ℕ) {m : Extended} (n : ℕ) (words given : List ℕ)
+    → m ≡ more_of n r
+    → extending_in n r bytes ≡ extended_of n words given
+    → m.length ≤ length given
+no_longer r bytes n words given u e = rw (u, (told n r bytes).0 ∙ ap (λ (x : Extending). x.outcome.length) e) (extended_fits given n words)
 
-pub no_longer_end : {r : Written} {bytes : List ℕ} (n : ℕ) (words lent : List ℕ) → outcome_in r bytes ≡ written_of n words lent → r.length ≤ length lent
-no_longer_end n words lent e = rw (ap (λ (x : Outcome). x.length) e) (written_fits lent n words)
+pub no_longer_end : (r : Result ℕ WriteError) (bytes : List ℕ) {m : ℕ} (n : ℕ) (words given : List ℕ)
+    → m ≡ result_unwrap_or r 0
+    → outcome_in r bytes ≡ written_of n words given
+    → m ≤ length given
+no_longer_end r bytes n words given u e = rw (u, (told_end r bytes).0 ∙ ap (λ (x : Outcome). x.length) e) (written_fits given n words)

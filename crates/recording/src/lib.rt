@@ -5,7 +5,7 @@ ghost use Rattle.std.specs.Prelude.{◌≤◌, ◌≡◌, false, length};
 ghost use Rattle.recording.specs.Recording.{Lent, Added, Ended};
 
 use output::{Out, at_most, with_room};
-use tape_writer::{extend, finish};
+use tape_writer::{Extended, extend, finish};
 
 #[derive(Clone, Copy)]
 pub struct Tape {
@@ -29,7 +29,11 @@ pub fn add(
 {
     let ready = with_room(rt, out, ROOM, output);
     let waiting = at_most(ready.waiting, output.len());
-    let more = extend(pending, words, &mut output[waiting..]);
+    // Of a row that is refused nothing is added.
+    let more = extend(pending, words, &mut output[waiting..]).unwrap_or(Extended {
+        length: 0,
+        pending,
+    });
     let after = Out {
         waiting: waiting + more.length,
         failed: ready.failed,
@@ -46,9 +50,9 @@ pub fn end(rt: &(impl Print + Eprint), out: Out, pending: u16, output: &mut [u8]
 {
     let ready = with_room(rt, out, ROOM, output);
     let waiting = at_most(ready.waiting, output.len());
-    let last = finish(pending, &[], &mut output[waiting..]);
+    let length = finish(pending, &[], &mut output[waiting..]).unwrap_or(0);
     Out {
-        waiting: waiting + last.length,
+        waiting: waiting + length,
         failed: ready.failed,
     }
 }

@@ -31,10 +31,9 @@ struct Shown {
 // The line of a record that is read, with its slot. An end and a refusal have theirs from `last_line`.
 fn record_line(slot: u64, item: Item) -> Text {
     match item {
-        Item::End => Text::empty(),
         Item::Command(command) => Answer::Record(slot, command).line(),
         Item::Run(count) => Answer::Run(slot, count).line(),
-        Item::Refused(_, _) => Text::empty(),
+        Item::End | Item::Refused(_, _) => Text::empty(),
     }
 }
 
@@ -42,27 +41,21 @@ fn record_line(slot: u64, item: Item) -> Text {
 fn last_line(slots: u64, base: u64, item: Item) -> Text {
     match item {
         Item::End => Answer::Ended(slots).line(),
-        Item::Command(_) => Text::empty(),
-        Item::Run(_) => Text::empty(),
         Item::Refused(why, at) => {
-            Answer::Refused(
-                tape_scan::number(why),
-                std::num::wrapping_add_u64(base, at as u64),
-            )
-            .line()
+            Answer::Refused(why.number(), std::num::wrapping_add_u64(base, at as u64)).line()
         }
+        Item::Command(_) | Item::Run(_) => Text::empty(),
     }
 }
 
 // Says a record.
 fn told(rt: &(impl Print + Eprint), before: Shown, item: Item, output: &mut [u8]) -> Shown {
     let slot = std::num::wrapping_add_u64(before.slots, 1);
-    let said = before.out;
-    let out = say(rt, said, record_line(slot, item), output);
-    let mut after = before;
-    after.slots = std::num::wrapping_add_u64(before.slots, tape_scan::slots(item));
-    after.out = out;
-    after
+    Shown {
+        slots: std::num::wrapping_add_u64(before.slots, tape_scan::slots(item)),
+        out: say(rt, before.out, record_line(slot, item), output),
+        ..before
+    }
 }
 
 // Says the records of a part of the tape, up to its end or a refused one: those leave the reader where it is.
@@ -86,24 +79,12 @@ fn records(rt: &(impl Print + Eprint), before: Shown, part: &[u8], output: &mut 
 
 // Could what is found at the end of a part be another thing where the tape goes on?
 fn waits(item: Item) -> bool {
-    match item {
-        Item::End => true,
-        Item::Command(_) => false,
-        Item::Run(_) => false,
-        Item::Refused(why, _) => match why {
-            Refusal::Kind => false,
-            Refusal::Cut => true,
-            Refusal::Run => false,
-        },
-    }
+    matches!(item, Item::End | Item::Refused(Refusal::Cut, _))
 }
 
 // The byte at a place of a part, 0 where it has none.
 fn byte_at(part: &[u8], at: usize) -> u8 {
-    if at < part.len() {
-        return part[at];
-    }
-    0
+    part.get(at).copied().unwrap_or(0)
 }
 
 // Says why a record is refused.
@@ -117,16 +98,11 @@ fn reason(rt: &impl Eprint, why: Refusal, kind: u8) {
 
 // A sentence for a person where a record is refused.
 fn explained(rt: &impl Eprint, base: u64, part: &[u8], item: Item) {
-    match item {
-        Item::End => {}
-        Item::Command(_) => {}
-        Item::Run(_) => {}
-        Item::Refused(why, at) => {
-            let place = std::num::wrapping_add_u64(base, at as u64);
-            let _ = eprint!(rt; "show: the record at place {place} is refused: ");
-            reason(rt, why, byte_at(part, at));
-            let _ = rt.eprint("\n");
-        }
+    if let Item::Refused(why, at) = item {
+        let place = std::num::wrapping_add_u64(base, at as u64);
+        let _ = eprint!(rt; "show: the record at place {place} is refused: ");
+        reason(rt, why, byte_at(part, at));
+        let _ = rt.eprint("\n");
     }
 }
 
@@ -134,40 +110,34 @@ fn explained(rt: &impl Eprint, base: u64, part: &[u8], item: Item) {
 fn ended(rt: &(impl Print + Eprint), before: Shown, part: &[u8], output: &mut [u8]) -> Shown {
     let found = read_at(part, before.at, before.run);
     let item = found.item;
-    let said = before.out;
-    let last = say(rt, said, last_line(before.slots, before.base, item), output);
+    let last = say(
+        rt,
+        before.out,
+        last_line(before.slots, before.base, item),
+        output,
+    );
     let out = output::written(rt, last, output);
     explained(rt, before.base, part, item);
-    let mut after = before;
-    after.out = out;
-    after.over = true;
-    after
-}
-
-// Moves the bytes from a place of a part on to its front.
-fn moved(part: &mut [u8], from: usize) {
-    let mut i = from;
-    let mut to = 0;
-    while i < part.len() {
-        part[to] = part[i];
-        to += 1;
-        i += 1;
+    Shown {
+        out,
+        over: true,
+        ..before
     }
 }
 
 // The part of the tape in the buffer has no whole record any more: its rest begins the next part.
 fn kept(rt: &(impl Print + Eprint), before: Shown, part: &mut [u8], output: &[u8]) -> Shown {
     let at = at_most(before.at, part.len());
-    moved(part, at);
-    let said = before.out;
-    let out = output::written(rt, said, output);
-    let mut after = before;
-    after.base = std::num::wrapping_add_u64(before.base, at as u64);
-    after.held = part.len() - at;
-    after.at = 0;
-    after.out = out;
-    after.over = out.failed;
-    after
+    part.copy_within(at.., 0);
+    let out = output::written(rt, before.out, output);
+    Shown {
+        base: std::num::wrapping_add_u64(before.base, at as u64),
+        held: part.len() - at,
+        at: 0,
+        out,
+        over: out.failed,
+        ..before
+    }
 }
 
 // Shows a part of the tape.
@@ -178,9 +148,7 @@ fn part_shown(
     output: &mut [u8],
 ) -> Shown {
     let shown = records(rt, before, part, output);
-    let found = read_at(part, shown.at, shown.run);
-    let item = found.item;
-    if waits(item) {
+    if waits(read_at(part, shown.at, shown.run).item) {
         return kept(rt, shown, part, output);
     }
     ended(rt, shown, part, output)
@@ -189,9 +157,10 @@ fn part_shown(
 // Nothing more can be read.
 fn broken(rt: &impl Eprint, before: Shown, why: io::Error) -> Shown {
     fail(rt, "read", why);
-    let mut after = before;
-    after.over = true;
-    after
+    Shown {
+        over: true,
+        ..before
+    }
 }
 
 // Reads once, behind the bytes that wait.
@@ -221,16 +190,14 @@ fn turn(
     part_shown(rt, before, &mut input[..n], output)
 }
 
-// A proved loop has to end, and nothing says that a tape does. So the loop counts its turns down, from a number that no run uses up.
+// A proved loop has to end, and nothing says that a tape does. So the loop has a number of turns that no run uses up.
 fn turns(rt: &(impl Input + Print + Eprint), before: Shown, input: &mut [u8], output: &mut [u8]) {
     let mut shown = before;
-    let mut left = u64::MAX;
-    while left > 0 {
+    for _ in 0..u64::MAX {
         shown = turn(rt, shown, input, output);
         if shown.over {
             return;
         }
-        left -= 1;
     }
 }
 

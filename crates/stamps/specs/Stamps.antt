@@ -1,6 +1,6 @@
 -- The past commands of a tape as a judge keeps them (document 02, (v)): of each kind, and of each bank where rules measure by banks, the slot of the last one, and nothing else.
 -- Slots are told by a clock that shows 32, the longest distance (tRFC), in slot 1, so that 0 can stand for a command that was never sent: every distance from it is kept.
-use Rattle.std.specs.Prelude.{ℕ, ◌+◌, ◌-◌, ◌^◌, ◌<◌, Bool, cond, List, leb, ltb, get_or, replicate}
+use Rattle.std.specs.Prelude.{ℕ, ◌+◌, ◌-◌, Bool, cond, List, leb, ltb, get_or, replicate}
 use Rattle.std.proofs.Math.Option.{none, some}
 use Rattle.address.specs.declared.Row.{Row}
 use Rattle.config.specs.declared.Config.{Config}
@@ -39,8 +39,3 @@ by_stamps c l now =
 -- the stamps after the command k, that was sent in that slot
 unfoldable pub stamped_of : ℕ → Command → List ℕ → List ℕ
 stamped_of now k l = each_place (λ i d. cond (starts d k) now (get_or l i 0))
-
--- Stamps of slots before the present one; and the clock is far from its end.
-pub record Clocked (l : List ℕ) (now : ℕ) : Type 0 where
-  pub earlier : (i : ℕ) → get_or l i 0 < now
-  pub far : now < 2 ^ 62

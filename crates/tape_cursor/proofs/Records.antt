@@ -5,6 +5,7 @@ use mathlib.Core.Bool.{true, false}
 use mathlib.Core.List.{List}
 use native.Mathlib.Omega.{arith}
 use native.Mathlib.Nat.{add_assoc}
+use Rattle.std.specs.Prelude.{Option, Some, None}
 use lib.Dec.{lit≤}
 use lib.ListN.{length, get_or}
 use Rattle.address.specs.declared.Bank.{Bank}
@@ -23,7 +24,7 @@ use Rattle.tape_decoder.specs.Shapes.{run_step, Whole}
 use Rattle.tape_decoder.proofs.Steps.{end_here, refused_kind, refused_cut, rest_at_lem, run_here, command_here}
 use Rattle.stamps.specs.Stamps.{by_stamps, stamped_of}
 use Rattle.tape_cursor.specs.declared.Cursor.{Cursor}
-use Rattle.tape_cursor.specs.Taken.{taken_as, halted_of, taken_by, taken_of, Here}
+use Rattle.tape_cursor.specs.Taken.{taken_as, taken_by, taken_of, Here}
 
 -- the number in two bytes at a place
 abbrev pub pair : List ℕ → ℕ → ℕ
@@ -48,8 +49,8 @@ abbrev Stepped : List ℕ → Cursor → Command → ℕ → Type 0
 Stepped tape p k bytes = step_of tape p.at p.before ≡ record { answer = command k; at = p.at + bytes; before = 0 }
 
 -- what is taken
-abbrev Gives : Config → List ℕ → List ℕ → Cursor → Cursor → List ℕ → Type 0
-Gives c l tape p r m = taken_as r m ≡ taken_of c l p (step_of tape p.at p.before)
+abbrev Gives : Config → List ℕ → ℕ → List ℕ → Cursor → Option Cursor → List ℕ → ℕ → Type 0
+Gives c l now tape p r m later = taken_as r m later ≡ taken_of c l now p (step_of tape p.at p.before)
 
 module _ {tape : List ℕ} {p : Cursor} where
   whole_here : {kind : ℕ} → Here tape p kind → kind ≤ 7 → body_length kind < length tape - p.at → Whole tape p.at kind
@@ -90,35 +91,35 @@ module _ {tape : List ℕ} {p : Cursor} where
   unfolding body_length
   run_step_lem h l = simp (run_here (whole_here h (lit≤ tt) l) p.before (lit≤ tt), add_assoc)
 
-module _ (c : Config) (l tape : List ℕ) (p : Cursor) where
-  pub cut_halts : {kind : ℕ} → Here tape p kind → kind ≤ 7 → length tape - p.at < suc (body_length kind) → Gives c l tape p (halted_of p) l
+module _ (c : Config) (l : List ℕ) (now : ℕ) (tape : List ℕ) (p : Cursor) where
+  pub cut_halts : {kind : ℕ} → Here tape p kind → kind ≤ 7 → length tape - p.at < suc (body_length kind) → Gives c l now tape p None l now
   unfolding taken_by
   cut_halts {kind} h k m =
       rw (refused_cut tape p.at p.before h.here (rw h.is at k) (let e : length tape - p.at - 1 < body_length kind = omega (arith, h.here) in rw h.is at e))
 
-  pub end_halts : length tape ≤ p.at → Gives c l tape p (halted_of p) l
+  pub end_halts : length tape ≤ p.at → Gives c l now tape p None l now
   unfolding taken_by
   end_halts h = rw (end_here tape p.at p.before h)
 
-  pub kind_halts : p.at < length tape → 7 < get_or tape p.at 0 → Gives c l tape p (halted_of p) l
+  pub kind_halts : p.at < length tape → 7 < get_or tape p.at 0 → Gives c l now tape p None l now
   unfolding taken_by
   kind_halts h k = rw (refused_kind tape p.at p.before h k)
 
-  pub legal_sent : (k : Command) (bytes : ℕ) {m : List ℕ} → Stepped tape p k bytes → legal_of c (by_stamps c l p.clock) k ≡ true → m ≡ stamped_of p.clock k l
-      → Gives c l tape p (record { at = p.at + bytes; before = 0; clock = p.clock + 1; going = true }) m
+  pub legal_sent : (k : Command) (bytes : ℕ) {m : List ℕ} {later : ℕ} → Stepped tape p k bytes → legal_of c (by_stamps c l now) k ≡ true → m ≡ stamped_of now k l → later ≡ now + 1
+      → Gives c l now tape p (Some (record { at = p.at + bytes; before = 0 })) m later
   unfolding taken_by
-  legal_sent k bytes s e n = rw (s, e, n)
+  legal_sent k bytes s e n f = rw (s, e, n, f)
 
-  pub illegal_halts : (k : Command) (bytes : ℕ) → Stepped tape p k bytes → legal_of c (by_stamps c l p.clock) k ≡ false → Gives c l tape p (halted_of p) l
+  pub illegal_halts : (k : Command) (bytes : ℕ) → Stepped tape p k bytes → legal_of c (by_stamps c l now) k ≡ false → Gives c l now tape p None l now
   unfolding taken_by
   illegal_halts k bytes s e = rw (s, e)
 
   -- a run
-  pub wrong_halts : (count : ℕ) → step_of tape p.at p.before ≡ run_step p.at p.before count → wrong_run p.before count ≡ true → Gives c l tape p (halted_of p) l
+  pub wrong_halts : (count : ℕ) → step_of tape p.at p.before ≡ run_step p.at p.before count → wrong_run p.before count ≡ true → Gives c l now tape p None l now
   unfolding taken_by run_step
   wrong_halts count s e = rw (s, e)
 
-  pub run_passes : (count : ℕ) → step_of tape p.at p.before ≡ run_step p.at p.before count → wrong_run p.before count ≡ false
-      → Gives c l tape p (record { at = p.at + 3; before = count; clock = p.clock + count; going = true }) l
+  pub run_passes : (count : ℕ) {m : List ℕ} {later : ℕ} → step_of tape p.at p.before ≡ run_step p.at p.before count → wrong_run p.before count ≡ false → m ≡ l → later ≡ now + count
+      → Gives c l now tape p (Some (record { at = p.at + 3; before = count })) m later
   unfolding taken_by run_step
-  run_passes count s e = rw (s, e)
+  run_passes count s e n f = rw (s, e, n, f)

@@ -34,19 +34,12 @@ fn body_length(kind: u8) -> usize
     }
 }
 
-// A number in two bytes, the low one first.
-fn pair(low: u8, high: u8) -> u16
-    ensures { result ≡ low + 256 * high }
-{
-    low as u16 + 256 * high as u16
-}
-
-// Such a number at a place of a tape.
+// A number in two bytes at a place of a tape, the low one first.
 pub fn pair_at(tape: &[u8], at: usize) -> u16
     requires { at + 1 < length tape.now }
     ensures { result ≡ get_or tape.now at 0 + 256 * get_or tape.now (at + 1) 0 }
 {
-    pair(tape[at], tape[at + 1])
+    u16::from_le_bytes([tape[at], tape[at + 1]])
 }
 
 // A refused record leaves the reader as it was.

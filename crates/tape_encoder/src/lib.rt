@@ -68,8 +68,7 @@ fn put_pair(tape: &mut [u8], at: usize, n: u16) -> usize
     requires { at + 2 ≤ length tape.old }
     ensures { (result ≡ at + 2) × (tape.new ≡ sets tape.old at (pair_of n)) }
 {
-    tape[at] = (n % 256) as u8;
-    tape[at + 1] = (n / 256) as u8;
+    tape[at..at + 2].copy_from_slice(&n.to_le_bytes());
     at + 2
 }
 

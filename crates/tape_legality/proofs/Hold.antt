@@ -1,6 +1,6 @@
 -- What makes each command legal by the stamps, as the code tests it: one after another.
 use Prim.Native.Nat.{ℕ, ◌+◌, ◌^◌, ◌≤◌, ◌<◌}
-use mathlib.Core.Path.{◌≡◌, refl}
+use mathlib.Core.Path.{◌≡◌, refl, ◌∙◌}
 use mathlib.Core.Bool.{Bool, true, false, not, ◌&&◌, ◌||◌}
 use mathlib.Core.List.{List, [], ◌∷◌}
 use native.Mathlib.Omega.{arith}
@@ -18,12 +18,12 @@ use Rattle.device.specs.Shared.{precharged_of}
 use Rattle.device.proofs.Tests.{and_true}
 use Rattle.device.proofs.Parts.{hold_append}
 use Rattle.stamps.proofs.Agree.{open_is}
-use Rattle.stamps.specs.Stamps.{open_at, by_stamps, Clocked}
-use Rattle.tape_legality.specs.Tests.{settled_of, latest_of, free_of, all_free_of}
+use Rattle.stamps.specs.Stamps.{open_at, by_stamps}
+use Rattle.tape_legality.specs.Tests.{settled_of, latest_of, free_of, all_free_of, any_open_of}
 
-pub latest_earlier : (l : List ℕ) (now : ℕ) → Clocked l now → latest_of l < now
+pub latest_earlier : (l : List ℕ) (now : ℕ) → ((i : ℕ) → get_or l i 0 < now) → latest_of l < now
 unfolding latest_of
-latest_earlier l now k = omega (arith, k.earlier 0, k.earlier 1, k.earlier 2, k.earlier 3)
+latest_earlier l now h = omega (arith, h 0, h 1, h 2, h 3)
 
 module _ (c : Config) (l : List ℕ) (now : ℕ) where
   -- R2's two come first
@@ -36,9 +36,15 @@ module _ (c : Config) (l : List ℕ) (now : ℕ) where
       go true false = refl
       go false y = refl
 
-  pub closed_is : all_closed (by_stamps c l now).row ≡ (not (open_at l 0) && (not (open_at l 1) && (not (open_at l 2) && not (open_at l 3))))
+  closed_is : all_closed (by_stamps c l now).row ≡ not (any_open_of l)
   unfolding all_closed
-  closed_is = rw (open_is l 0, open_is l 1, open_is l 2, open_is l 3)
+  closed_is = rw (open_is l 0, open_is l 1, open_is l 2, open_is l 3) (go (open_at l 0) (open_at l 1) (open_at l 2) (open_at l 3))
+    where
+      go : (x y z t : Bool) → (not x && (not y && (not z && not t))) ≡ not (x || (y || (z || t)))
+      go true y z t = refl
+      go false true z t = refl
+      go false false true t = refl
+      go false false false t = refl
 
   -- R12 and R13 for a DEAC, bank by bank
   R12-is : all_hold (R12-open (by_stamps c l now)) ≡ all_free_of l 0 c.ras now
@@ -49,16 +55,16 @@ module _ (c : Config) (l : List ℕ) (now : ℕ) where
   unfolding R13-open free_of
   R13-is = rw (open_is l 0, open_is l 1, open_is l 2, open_is l 3, and_true (not (open_at l 3) || leb (get_or l 15 0 + c.wr) now))
 
-  pub R7-is : (b : ℕ) → all_hold (R7 (by_stamps c l now) b)
+  pub apart_is : (b : ℕ) → all_hold (R7 (by_stamps c l now) b)
       ≡ ((eqb 0 b || leb (get_or l 0 0 + c.rrd) now) && ((eqb 1 b || leb (get_or l 1 0 + c.rrd) now)
       && ((eqb 2 b || leb (get_or l 2 0 + c.rrd) now) && (eqb 3 b || leb (get_or l 3 0 + c.rrd) now))))
   unfolding R7
-  R7-is b = rw (and_true (eqb 3 b || leb (get_or l 3 0 + c.rrd) now))
+  apart_is b = rw (and_true (eqb 3 b || leb (get_or l 3 0 + c.rrd) now))
 
-  pub R16-is : all_hold (R16 (by_stamps c l now))
+  pub row_cycled_is : all_hold (R16 (by_stamps c l now))
       ≡ (leb (get_or l 0 0 + c.rc) now && (leb (get_or l 1 0 + c.rc) now && (leb (get_or l 2 0 + c.rc) now && leb (get_or l 3 0 + c.rc) now)))
   unfolding R16
-  R16-is = rw (and_true (leb (get_or l 3 0 + c.rc) now))
+  row_cycled_is = rw (and_true (leb (get_or l 3 0 + c.rc) now))
 
   -- R7 holds where the latest ACT of all is far enough back
   pub R7-latest : (b : ℕ) → latest_of l + c.rrd ≤ now → true ≡ all_hold (R7 (by_stamps c l now) b)
@@ -111,6 +117,6 @@ module _ (c : Config) (l : List ℕ) (now : ℕ) where
   unfolding legal_of requirements
   deac_is = rw (settled_first, hold_append (R12-open (by_stamps c l now)), R12-is, R13-is)
 
-  pub precharged_is : precharged_of (by_stamps c l now) ≡ (settled_of c l now && (all_closed (by_stamps c l now).row && leb (get_or l 10 0 + c.rp) now))
+  pub precharged_is : precharged_of (by_stamps c l now) ≡ (settled_of c l now && (not (any_open_of l) && leb (get_or l 10 0 + c.rp) now))
   unfolding precharged_of
-  precharged_is = settled_first (all_closed (by_stamps c l now).row && leb (get_or l 10 0 + c.rp) now)
+  precharged_is = settled_first (all_closed (by_stamps c l now).row && leb (get_or l 10 0 + c.rp) now) ∙ rw closed_is

@@ -18,3 +18,7 @@ free_of l from n now b = not (open_at l b) || leb (get_or l (from + b) 0 + n) no
 -- as all have it
 abbrev pub all_free_of : List ℕ → ℕ → ℕ → ℕ → Bool
 all_free_of l from n now = free_of l from n now 0 && (free_of l from n now 1 && (free_of l from n now 2 && free_of l from n now 3))
+
+-- what R14 forbids
+abbrev pub any_open_of : List ℕ → Bool
+any_open_of l = open_at l 0 || (open_at l 1 || (open_at l 2 || open_at l 3))

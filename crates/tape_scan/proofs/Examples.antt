@@ -11,8 +11,7 @@ use Rattle.tape.specs.Reading.{
   step_of,
   contents_from,
 }
-use Rattle.tape_scan.specs.declared.Scanned.{Scanned}
-use Rattle.tape_scan.specs.Scan.{stopped_of, scanned_of}
+use Rattle.tape_scan.specs.Scan.{Scanned, stopped_of, scanned_of}
 
 pub record Example : Type 0 where
   pub tape : List ℕ

@@ -1,7 +1,9 @@
 -- The contents of a tape from a place on (crate `tape`, `contents_from`), by what the reader finds there.
-use Rattle.std.proofs.Common.{◌≡◌, ℕ, ◌+◌, ◌-◌, ◌%◌, ◌^◌, ◌<◌, ◌≤◌, true, false, List, [], ◌++◌, length, ap, ◌∙◌, add-zero, mod-eq_of_lt, arith, length-append}
+use Rattle.std.proofs.Common.{◌≡◌, ℕ, ◌+◌, ◌-◌, ◌%◌, ◌^◌, ◌<◌, ◌≤◌, true, false, List, [], ◌++◌, length, refl, sym, ap, ◌∙◌, add-zero, mod-eq_of_lt, arith, length-append}
 use native.Mathlib.Nat.{mod-add-mod}
-use Rattle.tape.specs.Reading.{end, Step, step_of, slots_of, goes_on, Contents, contents_from}
+use Rattle.tape.specs.declared.Item.{Item}
+use Rattle.tape.specs.declared.Refusal.{Refusal}
+use Rattle.tape.specs.Reading.{answer_of, end, Step, step_of, slots_of, goes_on, Contents, contents_from}
 use Rattle.tape.proofs.Steps.{steps}
 use Rattle.tape_scan.specs.Scan.{stopped_of, scanned_after}
 
@@ -19,6 +21,17 @@ goes tape at before g = steps.unfolds tape at before ∙ rw g
 
 pub stops : (tape : List ℕ) (at before : ℕ) → goes_on (step_of tape at before).answer ≡ false → rest tape at before ≡ record { slots = []; last = (step_of tape at before).answer }
 stops tape at before g = steps.unfolds tape at before ∙ rw g
+
+-- within the tape more is read after whatever is not refused
+pub goes_within : (tape : List ℕ) (at before : ℕ) (i : Item)
+    → at < length tape
+    → answer_of i ≡ (step_of tape at before).answer
+    → ((why : Refusal) (place : ℕ) → i ≡ Item.Refused why place → ⊥)
+    → goes_on (answer_of i) ≡ true
+goes_within tape at before Item.End h e n = absurd (let p = (steps.ends tape at before).1 (sym e) in omega arith)
+goes_within tape at before (Item.Command k) h e n = refl
+goes_within tape at before (Item.Run count) h e n = refl
+goes_within tape at before (Item.Refused why place) h e n = absurd (n why place refl)
 
 -- a record that is read takes the reader on
 pub onward : (tape : List ℕ) (at before : ℕ) (s : Step) → s ≡ step_of tape at before → goes_on s.answer ≡ true → length tape - s.at < length tape - at

@@ -1,6 +1,6 @@
 -- The two passes over a row: the words from a place on give, of what is there, what all words give of what was there at first.
 use Prim.Native.Nat.{ℕ, suc, ◌+◌, ◌*◌, ◌≤◌, ◌<◌}
-use mathlib.Core.Path.{◌≡◌, refl, sym, ◌∙◌}
+use mathlib.Core.Path.{◌≡◌, refl, sym, subst, ◌∙◌}
 use mathlib.Core.Bool.{true, false, cond}
 use mathlib.Core.List.{List, [], ◌∷◌, ◌++◌}
 use native.Mathlib.Omega.{arith}
@@ -9,11 +9,13 @@ use lib.ListN.{length, get_or, drop, length-append, drop_of_length-le}
 use lib.Dec.{ltb}
 use lib.Seq.{drop-cons, sets}
 use borrow.Author.Tests.{ltb-true, ltb-false}
-use Rattle.device.proofs.Tests.{by_test, both}
+use Rattle.device.proofs.Tests.{by_test, if_both, both}
 use Rattle.command.specs.declared.Command.{Command}
 use Rattle.packing.specs.Packing.{command_in, packs_command}
 use Rattle.tape.specs.Writing.{run_bytes, is_nop, Piece, slot_piece, piece_of}
-use Rattle.tape_writer.specs.declared.Measured.{Measured}
+use Rattle.std.specs.Prelude.{Result, Ok, Err}
+use Rattle.tape_writer.specs.declared.Extended.{Extended}
+use Rattle.tape_writer.specs.declared.WriteError.{WriteError}
 use Rattle.tape_writer.specs.Writer.{slots_in, all_pack}
 use Rattle.tape_writer.specs.Passes.{measured_of}
 use Rattle.tape_encoder.proofs.Slots.{joins, begins, ends, short_run, no_run, few_bytes}
@@ -29,28 +31,27 @@ slot_grows n k =
     (λ t. rw (ends n k t, length-append, no_run 0 refl) (omega (arith, few_bytes k)))
 
 -- the first pass
-pub onward : ℕ → ℕ → ℕ → List ℕ → Measured
-onward first done n words =
+pub onward : ℕ → ℕ → List ℕ → Result Extended WriteError
+onward done n words =
     let p : Piece = piece_of n (slots_in words) in
-    cond (all_pack words) (record { packs = true; length = done + length p.bytes; pending = p.pending })
-    (record { packs = false; length = 0; pending = first })
+    cond (all_pack words) (Ok (record { length = done + length p.bytes; pending = p.pending })) (Err WriteError.NotACommand)
 
-pub onward_all : (n : ℕ) (words : List ℕ) → onward n 0 n words ≡ measured_of n words
+pub onward_all : (n : ℕ) (words : List ℕ) → onward 0 n words ≡ measured_of n words
 unfolding onward measured_of
 onward_all n words = simp zero-add
 
-module _ (words : List ℕ) (i first done n : ℕ) where
+module _ (words : List ℕ) (i done n : ℕ) where
   pub onward_next : i < length words → packs_command (get_or words i 0) ≡ true
-      → onward first (done + length (slot_piece n (command_in (get_or words i 0))).bytes) (slot_piece n (command_in (get_or words i 0))).pending (drop (suc i) words)
-      ≡ onward first done n (drop i words)
+      → onward (done + length (slot_piece n (command_in (get_or words i 0))).bytes) (slot_piece n (command_in (get_or words i 0))).pending (drop (suc i) words)
+      ≡ onward done n (drop i words)
   unfolding onward all_pack piece_of
   onward_next h p = simp (drop-cons words i 0 h, p, length-append, add_assoc)
 
-  pub onward_stop : i < length words → packs_command (get_or words i 0) ≡ false → onward first done n (drop i words) ≡ record { packs = false; length = 0; pending = first }
+  pub onward_stop : i < length words → packs_command (get_or words i 0) ≡ false → onward done n (drop i words) ≡ Err WriteError.NotACommand
   unfolding onward all_pack
   onward_stop h p = simp (drop-cons words i 0 h, p)
 
-  pub onward_end : length words ≤ i → onward first done n (drop i words) ≡ record { packs = true; length = done; pending = n }
+  pub onward_end : length words ≤ i → onward done n (drop i words) ≡ Ok (record { length = done; pending = n })
   unfolding onward all_pack piece_of
   onward_end h = simp (drop_of_length-le words h, add-zero)
 
@@ -77,19 +78,25 @@ module _ (words : List ℕ) (i n : ℕ) (h : i < length words) where
   stored_next tape at = rw (bytes_next, sets_append)
 
 -- what the first pass tells
-module _ (m : Measured) (n : ℕ) (words : List ℕ) (e : m ≡ measured_of n words) where
+module _ (n : ℕ) (words : List ℕ) where
   abbrev of_row : Piece
   of_row = piece_of n (slots_in words)
 
-  pub measured_all : m.packs ≡ true → (all_pack words ≡ true) × (m.length ≡ length of_row.bytes) × (m.pending ≡ of_row.pending)
-  unfolding measured_of
-  measured_all p =
-      by_test (all_pack words) (λ t. (t, simp (e, t), simp (e, t)))
-      (λ t. let z : m.packs ≡ false = simp (e, t) in let f : ◌≡◌ {A = ℕ} 0 1 = cc in absurd (omega arith))
+  abbrev Measures : Result Extended WriteError → Type 0
+  Measures (Ok m) = (all_pack words ≡ true) × (m.length ≡ length of_row.bytes) × (m.pending ≡ of_row.pending)
+  Measures (Err why) = (all_pack words ≡ false) × (why ≡ WriteError.NotACommand)
 
-  pub measured_not : m.packs ≡ false → all_pack words ≡ false
+  measures : Measures (measured_of n words)
   unfolding measured_of
-  measured_not p = by_test (all_pack words) (λ t. let z : m.packs ≡ true = simp (e, t) in let f : true ≡ false = sym z ∙ p in t ∙ f) (λ t. t)
+  measures = if_both Measures (all_pack words) (λ t. (t, refl, refl)) (λ t. (t, refl))
+
+  pub measured_all : {r : Result Extended WriteError} {m : Extended} → r ≡ measured_of n words → r ≡ Ok m
+      → (all_pack words ≡ true) × (m.length ≡ length of_row.bytes) × (m.pending ≡ of_row.pending)
+  measured_all e o = subst Measures (sym e ∙ o) measures
+
+  pub measured_not : {r : Result Extended WriteError} {why : WriteError} → r ≡ measured_of n words → r ≡ Err why
+      → (all_pack words ≡ false) × (why ≡ WriteError.NotACommand)
+  measured_not e o = subst Measures (sym e ∙ o) measures
 
 -- no slot takes more than six bytes
 pub piece_short : (n : ℕ) (slots : List Command)

@@ -1,10 +1,10 @@
 -- The writer of tapes (document 02, (ii)): a row of words and lent bytes in, a number, a length and the lent bytes out.
-use Rattle.std.specs.Prelude.{ℕ, Bool, true, cond, ◌&&◌, List, [], ◌∷◌, ◌++◌, map, eqb, ltb, length, drop}
+use Rattle.std.specs.Prelude.{ℕ, Bool, true, cond, ◌&&◌, List, [], ◌∷◌, ◌++◌, map, eqb, ltb, length, drop, Result, Ok, Err}
 use Rattle.command.specs.declared.Command.{Command}
 use Rattle.packing.specs.Packing.{command_in, packs_command}
 use Rattle.tape.specs.Writing.{Piece, piece_of, tape_after}
-use Rattle.tape_writer.specs.declared.Written.{Written}
 use Rattle.tape_writer.specs.declared.Extended.{Extended}
+use Rattle.tape_writer.specs.declared.WriteError.{WriteError}
 
 -- the slots whose commands a row of words packs
 abbrev pub slots_in : List ℕ → List Command
@@ -51,9 +51,17 @@ extended_of n words lent =
     let w : Outcome = cond (all_pack words) (front_of p.bytes lent) (refused_of 20 lent) in
     record { outcome = w; pending = cond (eqb w.number 0) p.pending n }
 
--- as the code has it: the bytes changed in place, and the rest in its answer
-abbrev pub outcome_in : Written → List ℕ → Outcome
-outcome_in r bytes = record { number = r.number; length = r.length; bytes = bytes }
+-- the number of each refusal
+abbrev pub number_of : WriteError → ℕ
+number_of WriteError.NoRoom = 14
+number_of WriteError.NotACommand = 20
 
-abbrev pub extending_in : Extended → List ℕ → Extending
-extending_in r bytes = record { outcome = record { number = r.number; length = r.length; bytes = bytes }; pending = r.pending }
+-- as the code has it: the bytes changed in place, and the rest in its answer, 0 for one that is no refusal
+abbrev pub outcome_in : Result ℕ WriteError → List ℕ → Outcome
+outcome_in (Ok length) bytes = record { number = 0; length = length; bytes = bytes }
+outcome_in (Err why) bytes = refused_of (number_of why) bytes
+
+-- of a call that goes on with a tape, after so many NOPs that wait
+abbrev pub extending_in : ℕ → Result Extended WriteError → List ℕ → Extending
+extending_in n (Ok r) bytes = record { outcome = record { number = 0; length = r.length; bytes = bytes }; pending = r.pending }
+extending_in n (Err why) bytes = record { outcome = refused_of (number_of why) bytes; pending = n }

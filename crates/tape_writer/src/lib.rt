@@ -7,6 +7,7 @@ ghost use Rattle.tape.specs.Writing.{piece_of};
 ghost use Rattle.tape_writer.specs.Writer.{
   slots_in,
   all_pack,
+  number_of,
   written_of,
   whole_of,
   extended_of,
@@ -18,56 +19,52 @@ ghost use Rattle.tape_writer.specs.Passes.{measured_of};
 use packing::packs_command;
 use tape_encoder::{pending_after, put_run, put_slot, run_length, slot_length};
 
-// A number of the table, and the length of what was written: 0 if refused.
-#[derive(Clone, Copy)]
-pub struct Written {
-    pub number: u8,
-    pub length: usize,
+// Why nothing is written.
+#[derive(Clone, Copy, Debug, PartialEq, Eq)]
+pub enum WriteError {
+    // 14: the lent bytes are too few.
+    NoRoom,
+    // 20: a word of the row packs no command.
+    NotACommand,
 }
 
-// The same of a piece, and how many NOPs at its end still wait for their record.
+impl WriteError {
+    // Its number in the documents' table.
+    pub fn number(self) -> u8
+        ensures { result ≡ number_of self }
+    {
+        match self {
+            WriteError::NoRoom => 14,
+            WriteError::NotACommand => 20,
+        }
+    }
+}
+
+// A piece of a tape: the length of its records, and how many NOPs at its end still wait for theirs.
 #[derive(Clone, Copy)]
 pub struct Extended {
-    pub number: u8,
     pub length: usize,
     pub pending: u16,
 }
 
-// What the first pass finds.
-#[derive(Clone, Copy)]
-struct Measured {
-    packs: bool,
-    length: usize,
-    pending: u16,
-}
-
-// The first pass over a row: its words, and the length of its records.
+// The first pass over a row: how long its piece of the tape is, and what waits after it.
 #[tactic(auto, using(tape_encoder::proofs::Slots::short_run, crate::proofs::Passes::onward, crate::proofs::Passes::onward_all, crate::proofs::Passes::onward_next, crate::proofs::Passes::onward_stop, crate::proofs::Passes::onward_end, crate::proofs::Passes::slot_grows))]
-fn measure(pending: u16, words: &[u64]) -> Measured
+fn measure(pending: u16, words: &[u64]) -> Result<Extended, WriteError>
     ensures { result ≡ measured_of pending words.now }
 {
     let mut length = 0;
     let mut open = pending;
-    let mut i = 0;
-    while i < words.len() {
-        let word = words[i];
-        if packs_command(word) {
-            length += slot_length(open, word);
-            open = pending_after(open, word);
-            i += 1;
-        } else {
-            return Measured {
-                packs: false,
-                length: 0,
-                pending,
-            };
+    for &word in words {
+        if !packs_command(word) {
+            return Err(WriteError::NotACommand);
         }
+        length += slot_length(open, word);
+        open = pending_after(open, word);
     }
-    Measured {
-        packs: true,
+    Ok(Extended {
         length,
         pending: open,
-    }
+    })
 }
 
 // The second pass over a row: its records, from the first place on.
@@ -78,69 +75,42 @@ fn fill(pending: u16, words: &[u64], tape: &mut [u8])
 {
     let mut at = 0;
     let mut open = pending;
-    let mut i = 0;
-    while i < words.len() {
-        let word = words[i];
+    for &word in words {
         at = put_slot(tape, at, open, word);
         open = pending_after(open, word);
-        i += 1;
     }
 }
 
-// Goes on with a tape: writes the records of the slots of a row, after so many NOPs that wait: 0 at first, then what the call before answered.
+// Goes on with a tape: writes the records of the slots of a row, after so many NOPs that wait: 0 at first, then what the call before answered. Refused, as many wait as before.
 #[tactic(auto, using(crate::proofs::Passes::measured_all, crate::proofs::Passes::measured_not, crate::proofs::Outcomes::extended_20, crate::proofs::Outcomes::extended_14, crate::proofs::Outcomes::extended_0))]
-pub fn extend(pending: u16, words: &[u64], tape: &mut [u8]) -> Extended
-    ensures { extending_in result tape.new ≡ extended_of pending words.now tape.old }
+pub fn extend(pending: u16, words: &[u64], tape: &mut [u8]) -> Result<Extended, WriteError>
+    ensures { extending_in pending result tape.new ≡ extended_of pending words.now tape.old }
 {
-    let found = measure(pending, words);
-    if found.packs {
-        if tape.len() < found.length {
-            return Extended {
-                number: 14,
-                length: 0,
-                pending,
-            };
-        }
-        fill(pending, words, tape);
-        return Extended {
-            number: 0,
-            length: found.length,
-            pending: found.pending,
-        };
+    let found = measure(pending, words)?;
+    if tape.len() < found.length {
+        return Err(WriteError::NoRoom);
     }
-    Extended {
-        number: 20,
-        length: 0,
-        pending,
-    }
+    fill(pending, words, tape);
+    Ok(found)
 }
 
-// Ends a tape: as `extend`, and the NOPs that wait at the end get their record too.
+// Ends a tape: as `extend`, and the NOPs that wait at the end get their record too. Answers the length of what was written.
 #[tactic(auto, using(tape_encoder::proofs::Slots::short_run, crate::proofs::Passes::measured_all, crate::proofs::Passes::measured_not, crate::proofs::Passes::piece_short, crate::proofs::Outcomes::written_20, crate::proofs::Outcomes::written_14, crate::proofs::Outcomes::written_0))]
-pub fn finish(pending: u16, words: &[u64], tape: &mut [u8]) -> Written
+pub fn finish(pending: u16, words: &[u64], tape: &mut [u8]) -> Result<usize, WriteError>
     ensures { outcome_in result tape.new ≡ written_of pending words.now tape.old }
 {
-    let found = measure(pending, words);
-    if found.packs {
-        let length = found.length + run_length(found.pending);
-        if tape.len() < length {
-            return Written {
-                number: 14,
-                length: 0,
-            };
-        }
-        fill(pending, words, tape);
-        put_run(tape, found.length, found.pending);
-        return Written { number: 0, length };
+    let found = measure(pending, words)?;
+    let length = found.length + run_length(found.pending);
+    if tape.len() < length {
+        return Err(WriteError::NoRoom);
     }
-    Written {
-        number: 20,
-        length: 0,
-    }
+    fill(pending, words, tape);
+    put_run(tape, found.length, found.pending);
+    Ok(length)
 }
 
-// The tape of a row of words.
-pub fn write(words: &[u64], tape: &mut [u8]) -> Written
+// The tape of a row of words: answers its length.
+pub fn write(words: &[u64], tape: &mut [u8]) -> Result<usize, WriteError>
     ensures { outcome_in result tape.new ≡ whole_of words.now tape.old }
 {
     finish(0, words, tape)

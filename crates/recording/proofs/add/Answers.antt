@@ -5,17 +5,18 @@ use Rattle.recording.proofs.Laws.{added_bytes, added_pending, no_longer}
 use Rattle.recording.proofs.add.Goals as goal
 
 pub overflow_add-after : goal.overflow_add-after
-overflow_add-after g c = let e = no_longer _ _ _ c.extend-more.ensures in omega arith
+overflow_add-after g c = let e = no_longer c.extend.result _ _ _ _ c.unwrap_or-more.ensures c.extend.ensures in omega arith
 
 pub returns : goal.returns
 returns g c =
     λ l f.
     let a = c.args in
     let m = c.at_most-waiting in
-    let e = c.extend-more.ensures in
+    let u = c.unwrap_or-more.ensures in
+    let e = c.extend.ensures in
     let w = c.with_room-ready.ensures.kept f in
     let k = m.ensures.same (omega (arith, kept_room a.out 24579 (length a.output.now) l.room, w)) ∙ w in
     record {
-      waiting = added_bytes a.out a.pending m.result a.words.now a.output.now _ _ l k e;
-      pending = added_pending a.out a.pending m.result a.words.now a.output.now _ [] l k e;
+      waiting = added_bytes a.out a.pending m.result a.words.now a.output.now _ _ l k c.extend.result u e;
+      pending = added_pending a.out a.pending m.result a.words.now a.output.now c.extend.new.tape [] l k c.extend.result u e;
     }

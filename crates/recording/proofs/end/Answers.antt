@@ -5,7 +5,7 @@ use Rattle.recording.proofs.Laws.{ended_bytes, no_longer_end}
 use Rattle.recording.proofs.end.Goals as goal
 
 pub overflow_add-result : goal.overflow_add-result
-overflow_add-result g c = let e = no_longer_end _ _ _ c.finish-last.ensures in omega arith
+overflow_add-result g c = let e = no_longer_end c.finish.result _ _ _ _ c.unwrap_or-length.ensures c.finish.ensures in omega arith
 
 pub returns : goal.returns
 returns g c =
@@ -14,4 +14,4 @@ returns g c =
     let m = c.at_most-waiting in
     let w = c.with_room-ready.ensures.kept f in
     let k = m.ensures.same (omega (arith, kept_room a.out 24579 (length a.output.now) room, w)) ∙ w in
-    ended_bytes a.out a.pending m.result a.output.now _ _ room k c.finish-last.ensures
+    ended_bytes a.out a.pending m.result a.output.now _ _ room k c.finish.result c.unwrap_or-length.ensures c.finish.ensures

@@ -7,12 +7,12 @@ use Rattle.tape_cursor.proofs.take_act.Goals as goal
 pub returns-then-tape-p-lt4-clause-last_after : goal.returns-then-tape-p-lt4-clause-last_after
 unfolding body_length
 returns-then-tape-p-lt4-clause-last_after c =
-    rw c.halted.ensures (cut_halts c.args.c c.args.last.now c.args.tape.now c.args.p c.requires.1 (lit≤ tt) c.if-tape-p-lt4.true)
+    cut_halts c.args.c c.args.past.now.last c.args.past.now.clock c.args.tape.now c.args.p c.requires.2 (lit≤ tt) c.if-tape-p-lt4.true
 
 pub returns-then-act_legal-clause-last_after : goal.returns-then-act_legal-clause-last_after
 returns-then-act_legal-clause-last_after c =
-    rw c.sent.ensures (legal_sent c.args.c c.args.last.now c.args.tape.now c.args.p _ 4 (rw (← c.pair_at.ensures) at (act_step c.requires.1 c.if-tape-p-lt4.false)) (told c.act_legal.ensures c.if-act_legal.true) (c.note_act.ensures _))
+    rw c.sent.ensures (legal_sent c.args.c c.args.past.now.last c.args.past.now.clock c.args.tape.now c.args.p _ 4 (rw (← c.pair_at.ensures) at (act_step c.requires.2 c.if-tape-p-lt4.false)) (told c.act_legal.ensures c.if-act_legal.true) (c.note_act.ensures.last _) c.note_act.ensures.clock)
 
 pub returns-clause-last_after : goal.returns-clause-last_after
 returns-clause-last_after c =
-    rw c.halted-2.ensures (illegal_halts c.args.c c.args.last.now c.args.tape.now c.args.p _ 4 (rw (← c.pair_at.ensures) at (act_step c.requires.1 c.if-tape-p-lt4.false)) (told c.act_legal.ensures c.if-act_legal.false))
+    illegal_halts c.args.c c.args.past.now.last c.args.past.now.clock c.args.tape.now c.args.p _ 4 (rw (← c.pair_at.ensures) at (act_step c.requires.2 c.if-tape-p-lt4.false)) (told c.act_legal.ensures c.if-act_legal.false)

@@ -4,8 +4,8 @@ use Rattle.tape_cursor.proofs.take_mrs.Goals as goal
 
 pub returns-then-mrs_legal-clause-last_after : goal.returns-then-mrs_legal-clause-last_after
 returns-then-mrs_legal-clause-last_after c =
-    rw c.sent.ensures (legal_sent c.args.c c.args.last.now c.args.tape.now c.args.p _ 3 (rw (← c.pair_at.ensures) at (mrs_step c.requires.1 c.if-tape-p-lt3.false)) (told c.mrs_legal.ensures c.if-mrs_legal.true) (c.note_mrs.ensures _))
+    rw c.sent.ensures (legal_sent c.args.c c.args.past.now.last c.args.past.now.clock c.args.tape.now c.args.p _ 3 (rw (← c.pair_at.ensures) at (mrs_step c.requires.2 c.if-tape-p-lt3.false)) (told c.mrs_legal.ensures c.if-mrs_legal.true) (c.note_mrs.ensures.last _) c.note_mrs.ensures.clock)
 
 pub returns-clause-last_after : goal.returns-clause-last_after
 returns-clause-last_after c =
-    rw c.halted-2.ensures (illegal_halts c.args.c c.args.last.now c.args.tape.now c.args.p _ 3 (rw (← c.pair_at.ensures) at (mrs_step c.requires.1 c.if-tape-p-lt3.false)) (told c.mrs_legal.ensures c.if-mrs_legal.false))
+    illegal_halts c.args.c c.args.past.now.last c.args.past.now.clock c.args.tape.now c.args.p _ 3 (rw (← c.pair_at.ensures) at (mrs_step c.requires.2 c.if-tape-p-lt3.false)) (told c.mrs_legal.ensures c.if-mrs_legal.false)

@@ -7,12 +7,12 @@ use Rattle.tape_cursor.proofs.take_read.Goals as goal
 pub returns-then-tape-p-lt4-clause-last_after : goal.returns-then-tape-p-lt4-clause-last_after
 unfolding body_length
 returns-then-tape-p-lt4-clause-last_after c =
-    rw c.halted.ensures (cut_halts c.args.c c.args.last.now c.args.tape.now c.args.p c.requires.1 (lit≤ tt) c.if-tape-p-lt4.true)
+    cut_halts c.args.c c.args.past.now.last c.args.past.now.clock c.args.tape.now c.args.p c.requires.2 (lit≤ tt) c.if-tape-p-lt4.true
 
 pub returns-then-read_legal-clause-last_after : goal.returns-then-read_legal-clause-last_after
 returns-then-read_legal-clause-last_after c =
-    rw c.sent.ensures (legal_sent c.args.c c.args.last.now c.args.tape.now c.args.p _ 4 (rw (← c.pair_at.ensures) at (read_step c.requires.1 c.if-tape-p-lt4.false)) (told c.read_legal.ensures c.if-read_legal.true) (c.note_read.ensures _ _))
+    rw c.sent.ensures (legal_sent c.args.c c.args.past.now.last c.args.past.now.clock c.args.tape.now c.args.p _ 4 (rw (← c.pair_at.ensures) at (read_step c.requires.2 c.if-tape-p-lt4.false)) (told c.read_legal.ensures c.if-read_legal.true) (c.note_read.ensures.last _ _) c.note_read.ensures.clock)
 
 pub returns-clause-last_after : goal.returns-clause-last_after
 returns-clause-last_after c =
-    rw c.halted-2.ensures (illegal_halts c.args.c c.args.last.now c.args.tape.now c.args.p _ 4 (rw (← c.pair_at.ensures) at (read_step c.requires.1 c.if-tape-p-lt4.false)) (told c.read_legal.ensures c.if-read_legal.false))
+    illegal_halts c.args.c c.args.past.now.last c.args.past.now.clock c.args.tape.now c.args.p _ 4 (rw (← c.pair_at.ensures) at (read_step c.requires.2 c.if-tape-p-lt4.false)) (told c.read_legal.ensures c.if-read_legal.false)

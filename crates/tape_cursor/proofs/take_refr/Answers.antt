@@ -4,8 +4,8 @@ use Rattle.tape_cursor.proofs.take_refr.Goals as goal
 
 pub returns-then-refr_legal-clause-last_after : goal.returns-then-refr_legal-clause-last_after
 returns-then-refr_legal-clause-last_after c =
-    rw c.sent.ensures (legal_sent c.args.c c.args.last.now c.args.tape.now c.args.p _ 1 (refr_step c.requires.1) (told c.refr_legal.ensures c.if-refr_legal.true) c.note_refr.ensures)
+    rw c.sent.ensures (legal_sent c.args.c c.args.past.now.last c.args.past.now.clock c.args.tape.now c.args.p _ 1 (refr_step c.requires.2) (told c.refr_legal.ensures c.if-refr_legal.true) c.note_refr.ensures.last c.note_refr.ensures.clock)
 
 pub returns-clause-last_after : goal.returns-clause-last_after
 returns-clause-last_after c =
-    rw c.halted.ensures (illegal_halts c.args.c c.args.last.now c.args.tape.now c.args.p _ 1 (refr_step c.requires.1) (told c.refr_legal.ensures c.if-refr_legal.false))
+    illegal_halts c.args.c c.args.past.now.last c.args.past.now.clock c.args.tape.now c.args.p _ 1 (refr_step c.requires.2) (told c.refr_legal.ensures c.if-refr_legal.false)

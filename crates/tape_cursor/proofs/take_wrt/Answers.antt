@@ -8,16 +8,16 @@ use Rattle.tape_cursor.proofs.take_wrt.Goals as goal
 pub returns-then-tape-p-lt6-clause-last_after : goal.returns-then-tape-p-lt6-clause-last_after
 unfolding body_length
 returns-then-tape-p-lt6-clause-last_after c =
-    rw c.halted.ensures (cut_halts c.args.c c.args.last.now c.args.tape.now c.args.p c.requires.1 (lit≤ tt) c.if-tape-p-lt6.true)
+    cut_halts c.args.c c.args.past.now.last c.args.past.now.clock c.args.tape.now c.args.p c.requires.2 (lit≤ tt) c.if-tape-p-lt6.true
 
 pub note_wrt-requires : goal.note_wrt-requires
 note_wrt-requires c =
-    (c.requires.0.places, wrt_four c.args.c c.requires.0.accepted _ _ _ _ (told (c.wrt_legal.ensures (pair c.args.tape.now (c.args.p.at + 4))) c.if-wrt_legal.true))
+    (wrt_four c.args.c c.requires.0 _ _ _ _ (told (c.wrt_legal.ensures (pair c.args.tape.now (c.args.p.at + 4))) c.if-wrt_legal.true), c.requires.1)
 
 pub returns-then-wrt_legal-clause-last_after : goal.returns-then-wrt_legal-clause-last_after
 returns-then-wrt_legal-clause-last_after c =
-    rw c.sent.ensures (legal_sent c.args.c c.args.last.now c.args.tape.now c.args.p _ 6 (rw (← c.pair_at.ensures) at (wrt_step c.requires.1 c.if-tape-p-lt6.false)) (told (c.wrt_legal.ensures (pair c.args.tape.now (c.args.p.at + 4))) c.if-wrt_legal.true) (c.note_wrt.ensures _ _))
+    rw c.sent.ensures (legal_sent c.args.c c.args.past.now.last c.args.past.now.clock c.args.tape.now c.args.p _ 6 (rw (← c.pair_at.ensures) at (wrt_step c.requires.2 c.if-tape-p-lt6.false)) (told (c.wrt_legal.ensures (pair c.args.tape.now (c.args.p.at + 4))) c.if-wrt_legal.true) (c.note_wrt.ensures.last _ _) c.note_wrt.ensures.clock)
 
 pub returns-clause-last_after : goal.returns-clause-last_after
 returns-clause-last_after c =
-    rw c.halted-2.ensures (illegal_halts c.args.c c.args.last.now c.args.tape.now c.args.p _ 6 (rw (← c.pair_at.ensures) at (wrt_step c.requires.1 c.if-tape-p-lt6.false)) (told (c.wrt_legal.ensures (pair c.args.tape.now (c.args.p.at + 4))) c.if-wrt_legal.false))
+    illegal_halts c.args.c c.args.past.now.last c.args.past.now.clock c.args.tape.now c.args.p _ 6 (rw (← c.pair_at.ensures) at (wrt_step c.requires.2 c.if-tape-p-lt6.false)) (told (c.wrt_legal.ensures (pair c.args.tape.now (c.args.p.at + 4))) c.if-wrt_legal.false)

@@ -7,4 +7,4 @@ use Rattle.tape_legality.proofs.all_apart.Goals as goal
 pub returns-then-reached : goal.returns-then-reached
 returns-then-reached c =
     let far = leb-true _ _ (told c.reached.ensures c.if-reached.true) in
-    R7-latest c.args.c c.args.last.now c.args.clock c.args.own (rw (← c.latest_act.ensures) far)
+    R7-latest c.args.c c.args.past.now.last c.args.past.now.clock c.args.own (rw (← c.latest_act.ensures) far)

@@ -1,9 +1,0 @@
--- The loop goes through the words, which keep their number.
-use Rattle.std.proofs.Common.{◌-◌, ◌≡◌, length}
-use Rattle.bench_tapes.proofs.fill.Given as goal
-
-abbrev pub invariant-loop-i : goal.invariant-loop-i
-invariant-loop-i l = length l.words ≡ length l.initial.words
-
-abbrev pub decreases-loop-i : goal.decreases-loop-i
-decreases-loop-i l = length l.words - l.i
