@@ -19,18 +19,20 @@ fn play_all(
     output: &mut [u8],
 ) -> Run {
     let mut run = run;
+    let mut line = run.line;
     for &byte in input {
         if byte == b'\n' {
-            run = ended(rt, run, given, bus, output);
+            run = ended(rt, Run { line, ..run }, given, bus, output);
             if run.over {
                 return run;
             }
+            line = run.line;
         } else {
-            run.line.note(byte, given);
-            run.line = run.line.take(byte);
+            line.note(byte, given);
+            line = line.take(byte);
         }
     }
-    run
+    Run { line, ..run }
 }
 
 // Nothing more can be read: the line under way is not played.
