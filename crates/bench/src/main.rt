@@ -2,6 +2,7 @@
 // the work of bench/baseline.c, on the proved machine (see bench/run).
 #![tactic(auto)]
 
+use bench_stream::{mix, shuffle};
 use command::Command;
 use plan::Report;
 use queue::Kind;
@@ -21,16 +22,6 @@ const READING: bool = false;
 struct Bench {
     machine: Machine,
     digest: u32,
-}
-
-fn shuffle(x: u32) -> u32 {
-    let a = x ^ (x << 13);
-    let b = a ^ (a >> 17);
-    b ^ (b << 5)
-}
-
-fn mix(digest: u32, value: u32) -> u32 {
-    shuffle(digest ^ value)
 }
 
 // A command's kind, bank, and row, column or mode word, and then its halfword.
@@ -72,10 +63,10 @@ fn mix_report(digest: u32, report: Report) -> u32 {
 
 // The kind of the stream's word x.
 fn kind_of(x: u32) -> Kind {
-    if x / LOAD % 2 == 1 {
-        return Kind::Write;
+    match x / LOAD % 2 {
+        1 => Kind::Write,
+        _ => Kind::Read,
     }
-    Kind::Read
 }
 
 // A request of the stream's word x.
@@ -99,8 +90,7 @@ fn run() -> Bench {
     let mut machine = made.machine;
     let mut x: u32 = 2463534242;
     let mut digest: u32 = 1;
-    let mut n: u32 = 0;
-    while n < SLOTS {
+    for _ in 0..SLOTS {
         x = shuffle(x);
         if x % LOAD == 0 {
             let r = asked(machine, x);
@@ -109,18 +99,17 @@ fn run() -> Bench {
         }
         let s = machine.slot((x / 65536) as u16);
         machine = s.machine;
-        let command = s.command;
-        let report = s.report;
-        let after = mix_report(mix_command(mix(digest, s.number as u32), command), report);
+        let after = mix_report(
+            mix_command(mix(digest, s.number as u32), s.command),
+            s.report,
+        );
         digest = mix_reading(after, machine);
-        n += 1;
     }
     Bench { machine, digest }
 }
 
 fn main(rt: HostRuntime) -> io::Result<()> {
-    let b = run();
-    let accepted = b.machine.accepted;
-    let digest = b.digest;
+    let Bench { machine, digest } = run();
+    let accepted = machine.accepted;
     println!(rt; "slots {SLOTS} accepted {accepted} digest {digest}")
 }

@@ -2,6 +2,7 @@
 // bench/best.c with -DMANY, on the proved machine (see bench/run).
 #![tactic(auto)]
 
+use bench_stream::{mix, shuffle};
 use queue::Kind;
 use sequencer::{Machine, Requested};
 use std::io;
@@ -25,32 +26,19 @@ struct Bench {
     digest: u32,
 }
 
-fn shuffle(x: u32) -> u32 {
-    let a = x ^ (x << 13);
-    let b = a ^ (a >> 17);
-    b ^ (b << 5)
-}
-
-fn mix(digest: u32, value: u32) -> u32 {
-    shuffle(digest ^ value)
-}
-
 // Words, the first one first.
 fn mix_all(digest: u32, words: &[u64]) -> u32 {
     let mut digest = digest;
-    let mut i = 0;
-    while i < words.len() {
-        let word = words[i];
+    for &word in words {
         digest = mix(
             digest,
             (word % 4294967296) as u32 ^ (word / 4294967296 % 4294967296) as u32,
         );
-        i += 1;
     }
     digest
 }
 
-// The reading call, where it is measured.
+// The reading call, where it is measured. This, `kind_of` and `request` stand in `bench` too: bench/run changes LOAD and READING in each program's own text.
 fn mix_reading(digest: u32, machine: Machine) -> u32 {
     if READING {
         let r = machine.backlog();
@@ -61,10 +49,10 @@ fn mix_reading(digest: u32, machine: Machine) -> u32 {
 
 // The kind of the stream's word x.
 fn kind_of(x: u32) -> Kind {
-    if x / LOAD % 2 == 1 {
-        return Kind::Write;
+    match x / LOAD % 2 {
+        1 => Kind::Write,
+        _ => Kind::Read,
     }
-    Kind::Read
 }
 
 // A request of the stream's word x.
@@ -78,13 +66,11 @@ fn asked(before: Bench) -> Bench {
     let mut machine = before.machine;
     let mut x = before.x;
     let mut digest = before.digest;
-    let mut i: u32 = 0;
-    while i < LENGTH / LOAD {
+    for _ in 0..LENGTH / LOAD {
         x = shuffle(x);
         let r = request(machine, x);
         machine = r.machine;
         digest = mix(mix(digest, r.number as u32), r.request);
-        i += 1;
     }
     Bench { machine, x, digest }
 }
@@ -92,11 +78,9 @@ fn asked(before: Bench) -> Bench {
 // What the bus carries. It gives the stream's word after it.
 fn fill(bus: &mut [u16], x: u32) -> u32 {
     let mut x = x;
-    let mut i = 0;
-    while i < bus.len() {
+    for halfword in bus {
         x = shuffle(x);
-        bus[i] = (x / 65536) as u16;
-        i += 1;
+        *halfword = (x / 65536) as u16;
     }
     x
 }
@@ -132,17 +116,18 @@ fn run() -> Bench {
         x: 2463534242,
         digest: 1,
     };
-    let mut n: u32 = 0;
-    while n < SLOTS / LENGTH {
+    for _ in 0..SLOTS / LENGTH {
         bench = called(bench);
-        n += 1;
     }
     bench
 }
 
 fn main(rt: HostRuntime) -> io::Result<()> {
-    let b = run();
-    let accepted = b.machine.accepted;
-    let digest = b.digest;
+    let Bench {
+        machine,
+        digest,
+        ..
+    } = run();
+    let accepted = machine.accepted;
     println!(rt; "slots {SLOTS} accepted {accepted} digest {digest}")
 }

@@ -115,37 +115,13 @@ fn unpacked(
     ensures { result.waiting ≤ length output.old }
 {
     let mut out = out;
-    let mut i = 0;
-    while i < count {
-        if commands.len() <= i {
-            return out;
-        }
-        if reports.len() <= i {
-            return out;
-        }
-        out = say(
-            rt,
-            out,
-            Answer::Packed(commands[i], reports[i]).line(),
-            output,
-        );
-        i += 1;
+    for (&command, &report) in commands.iter().zip(reports).take(count) {
+        out = say(rt, out, Answer::Packed(command, report).line(), output);
     }
     out
 }
 
-// A line where a place is not 0 any more.
-fn changed(rt: &(impl Print + Eprint), out: Out, word: u64, output: &mut [u8]) -> Out
-    requires { out.waiting ≤ length output.old }
-    ensures { result.waiting ≤ length output.old }
-{
-    if word == 0 {
-        return out;
-    }
-    say(rt, out, Answer::Unknown.line(), output)
-}
-
-// Looks at the places beyond the first `count`. They are still 0: the contract of `slots` says so.
+// A line for each place beyond the first `count` that is not 0 any more. They are still 0: the contract of `slots` says so.
 fn beyond(
     rt: &(impl Print + Eprint),
     out: Out,
@@ -157,10 +133,10 @@ fn beyond(
     ensures { result.waiting ≤ length output.old }
 {
     let mut out = out;
-    let mut i = count;
-    while i < words.len() {
-        out = changed(rt, out, words[i], output);
-        i += 1;
+    for &word in words.iter().skip(count) {
+        if word != 0 {
+            out = say(rt, out, Answer::Unknown.line(), output);
+        }
     }
     out
 }

@@ -1,11 +1,21 @@
 -- A number of a script, byte by byte (REPLAY.md, "Script"): decimal, or hexadecimal after 0x, of at most 32 bits.
-use Rattle.std.specs.Prelude.{ℕ, ◌+◌, ◌-◌, ◌*◌, cond, ltb, leb, eqb}
+use Rattle.std.specs.Prelude.{Option, None, Some, ℕ, ◌+◌, ◌-◌, ◌*◌, cond, ltb, leb, eqb}
 use Rattle.number.specs.declared.Number.{Number}
 use Rattle.number.specs.declared.Number.TheVariants.{Empty, Zero, Decimal, Prefix, Hex, Wrong}
 
 -- stands for no number: more than 32 bits hold
 abbrev pub none : ℕ
 none = 4294967296
+
+-- a number that may be missing, as the definitions below say it
+abbrev pub value_in : Option ℕ → ℕ
+value_in None = none
+value_in (Some v) = v
+
+-- and a digit that may be missing
+abbrev pub digit_in : Option ℕ → ℕ
+digit_in None = 16
+digit_in (Some d) = d
 
 -- the value of a digit, `0` to `9`, `A` to `F`, `a` to `f`, and 16 for a byte that is none
 unfoldable pub digit_of : ℕ → ℕ

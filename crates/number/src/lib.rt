@@ -1,8 +1,19 @@
 // Owns the reading of a number of a script (REPLAY.md), byte by byte.
 #![tactic(auto)]
 
-ghost use Rattle.std.specs.Prelude.{◌≡◌, ◌<◌};
-ghost use Rattle.number.specs.Number.{digit_of, joined_of, more_decimal, more_hex, first_byte, after_zero, number_of, value_of};
+ghost use Rattle.std.specs.Prelude.{◌≡◌, ◌≤◌, ◌*◌};
+ghost use Rattle.number.specs.Number.{
+  digit_in,
+  digit_of,
+  value_in,
+  joined_of,
+  more_decimal,
+  more_hex,
+  first_byte,
+  after_zero,
+  number_of,
+  value_of,
+};
 
 // A number, as far as it has been read.
 #[derive(Clone, Copy)]
@@ -19,50 +30,30 @@ pub enum Number {
     Wrong,
 }
 
-// Stands for no number: more than 32 bits hold.
-pub const NONE: u64 = 4294967296;
-
-// The value of a digit, and 16 for a byte that is none.
+// The value of a digit, if the byte is one.
 #[tactic(auto, unfolding(crate::specs::Number::digit_of))]
-fn digit(byte: u8) -> u8
-    ensures { result ≡ digit_of byte }
+fn digit(byte: u8) -> Option<u32>
+    ensures { digit_in result ≡ digit_of byte }
 {
-    if byte < 48 {
-        return 16;
+    match byte {
+        b'0'..=b'9' => Some((byte - b'0') as u32),
+        b'A'..=b'F' => Some((byte - b'A') as u32 + 10),
+        b'a'..=b'f' => Some((byte - b'a') as u32 + 10),
+        _ => None,
     }
-    if byte < 58 {
-        return byte - 48;
-    }
-    if byte < 65 {
-        return 16;
-    }
-    if byte < 71 {
-        return byte - 55;
-    }
-    if byte < 97 {
-        return 16;
-    }
-    if byte < 103 {
-        return byte - 87;
-    }
-    16
 }
 
-// `high` and a digit of the base; NONE where the byte is no such digit, or 32 bits do not hold the sum.
+// A number with a digit of the base after it, if the byte is such a digit and 32 bits hold the sum.
 #[tactic(auto, unfolding(crate::specs::Number::joined_of))]
-fn joined(high: u64, base: u8, byte: u8) -> u64
-    requires { high < 1099511627776 }
-    ensures { result ≡ joined_of high base byte }
+fn joined(value: u32, base: u32, byte: u8) -> Option<u32>
+    requires { base ≤ 16 }
+    ensures { value_in result ≡ joined_of (value * base) base byte }
 {
-    let d = digit(byte);
-    if base <= d {
-        return NONE;
+    let digit = digit(byte)?;
+    if base <= digit {
+        return None;
     }
-    let n = high + d as u64;
-    if NONE <= n {
-        return NONE;
-    }
-    n
+    value.checked_mul(base)?.checked_add(digit)
 }
 
 // A decimal number with one byte more.
@@ -70,11 +61,10 @@ fn joined(high: u64, base: u8, byte: u8) -> u64
 fn decimal(value: u32, byte: u8) -> Number
     ensures { result ≡ more_decimal value byte }
 {
-    let n = joined(value as u64 * 10, 10, byte);
-    if NONE <= n {
-        return Number::Wrong;
+    match joined(value, 10, byte) {
+        Some(value) => Number::Decimal(value),
+        None => Number::Wrong,
     }
-    Number::Decimal(n as u32)
 }
 
 // A hexadecimal number with one byte more.
@@ -82,18 +72,17 @@ fn decimal(value: u32, byte: u8) -> Number
 fn hex(value: u32, byte: u8) -> Number
     ensures { result ≡ more_hex value byte }
 {
-    let n = joined(value as u64 * 16, 16, byte);
-    if NONE <= n {
-        return Number::Wrong;
+    match joined(value, 16, byte) {
+        Some(value) => Number::Hex(value),
+        None => Number::Wrong,
     }
-    Number::Hex(n as u32)
 }
 
 #[tactic(auto, unfolding(crate::specs::Number::first_byte))]
 fn first_byte(byte: u8) -> Number
     ensures { result ≡ first_byte byte }
 {
-    if byte == 48 {
+    if byte == b'0' {
         return Number::Zero;
     }
     decimal(0, byte)
@@ -103,7 +92,7 @@ fn first_byte(byte: u8) -> Number
 fn after_zero(byte: u8) -> Number
     ensures { result ≡ after_zero byte }
 {
-    if byte == 120 {
+    if byte == b'x' {
         return Number::Prefix;
     }
     decimal(0, byte)
@@ -125,18 +114,15 @@ impl Number {
         }
     }
 
-    // Its value, where the word ends here; NONE where it is no number.
+    // Its value, where the word ends here, if it is a number.
     #[tactic(auto, unfolding(crate::specs::Number::value_of))]
-    pub fn value(self) -> u64
-        ensures { result ≡ value_of self }
+    pub fn value(self) -> Option<u32>
+        ensures { value_in result ≡ value_of self }
     {
         match self {
-            Number::Empty => NONE,
-            Number::Zero => 0,
-            Number::Decimal(value) => value as u64,
-            Number::Prefix => NONE,
-            Number::Hex(value) => value as u64,
-            Number::Wrong => NONE,
+            Number::Zero => Some(0),
+            Number::Decimal(value) | Number::Hex(value) => Some(value),
+            Number::Empty | Number::Prefix | Number::Wrong => None,
         }
     }
 }

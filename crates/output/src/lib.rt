@@ -35,10 +35,7 @@ pub fn large_buffer() -> [u8; 65536]
 pub fn at_most(n: usize, most: usize) -> usize
     ensures { Limited n most result }
 {
-    if most < n {
-        return most;
-    }
-    n
+    n.min(most)
 }
 
 // Puts a text behind the bytes that wait, as far as there is room, and answers how many wait then.
@@ -46,22 +43,10 @@ pub fn put(output: &mut [u8], waiting: usize, text: Text) -> usize
     requires { waiting ≤ length output.old }
     ensures { (waiting ≤ result) × (result ≤ length output.old) }
 {
-    let bytes = text.bytes;
-    let count = text.count;
-    let mut at = waiting;
-    let mut i = 0;
-    while i < 64 {
-        if count <= i {
-            return at;
-        }
-        if output.len() <= at {
-            return at;
-        }
-        output[at] = bytes[i];
-        at += 1;
-        i += 1;
-    }
-    at
+    let count = text.count.min(64).min(output.len() - waiting);
+    let end = waiting + count;
+    output[waiting..end].copy_from_slice(&text.bytes[..count]);
+    end
 }
 
 // Says on standard error what failed, and why. The answer is what `Out.failed` is from then on.
@@ -89,7 +74,7 @@ pub fn written(rt: &(impl Print + Eprint), out: Out, output: &[u8]) -> Out
     if out.failed {
         return out;
     }
-    let waiting = at_most(out.waiting, output.len());
+    let waiting = out.waiting.min(output.len());
     Out {
         waiting: 0,
         failed: flush(rt, output, waiting),
@@ -115,7 +100,7 @@ pub fn say(rt: &(impl Print + Eprint), out: Out, text: Text, output: &mut [u8]) 
     ensures { result.waiting ≤ length output.old }
 {
     let ready = with_room(rt, out, 64, output);
-    let waiting = at_most(ready.waiting, output.len());
+    let waiting = ready.waiting.min(output.len());
     Out {
         waiting: put(output, waiting, text),
         failed: ready.failed,

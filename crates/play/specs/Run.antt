@@ -1,13 +1,9 @@
 -- A run of a script: where it begins, and that nothing more is read.
-use Rattle.std.specs.Prelude.{Bool, true, false}
+use Rattle.std.specs.Prelude.{true, false}
 use Rattle.script.specs.Line.{no_line}
 use Rattle.sequencer.specs.Machine.{blank_of}
 use Rattle.play.specs.declared.Mode.{Mode}
 use Rattle.play.specs.declared.Run.{Run}
-
-abbrev pub is_tape : Mode → Bool
-is_tape Mode.Lines = false
-is_tape Mode.Tape = true
 
 -- the blank machine, the first line, and nothing waits
 unfoldable pub start_of : Mode → Run
@@ -19,7 +15,7 @@ start_of mode =
       halfwords = 0;
       out = record { waiting = 0; failed = false };
       over = false;
-      taped = is_tape mode;
+      mode = mode;
       begun = false;
       pending = 0;
     }
@@ -33,7 +29,7 @@ over_of r =
       halfwords = r.halfwords;
       out = r.out;
       over = true;
-      taped = r.taped;
+      mode = r.mode;
       begun = r.begun;
       pending = r.pending;
     }

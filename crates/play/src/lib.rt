@@ -2,12 +2,12 @@
 // slots (TAPES.md).
 #![tactic(auto)]
 
-ghost use Rattle.std.specs.Prelude.{◌≡◌, ◌+◌, ◌%◌, false, length};
+ghost use Rattle.std.specs.Prelude.{◌≡◌, ◌≤◌, ◌+◌, ◌%◌, length};
 ghost use Rattle.script.specs.Line.{no_line};
-ghost use Rattle.play.specs.Run.{is_tape, start_of, over_of};
+ghost use Rattle.play.specs.Run.{start_of, over_of};
 
 use calls::Played;
-use output::{Out, at_most, say};
+use output::{Out, say};
 use packing::pack_command;
 use queue::Kind;
 use script::{Call, Line, NUMBERS};
@@ -31,64 +31,49 @@ pub struct Run {
     pub out: Out,
     // Is there nothing more to read?
     pub over: bool,
-    // Is a tape written, and no lines?
-    pub taped: bool,
+    pub mode: Mode,
     // Has a configuration been accepted? With it the tape begins.
     pub begun: bool,
     // How many NOPs at the tape's end still wait for their record.
     pub pending: u16,
 }
 
-fn is_tape(mode: Mode) -> bool
-    ensures { result ≡ is_tape mode }
-{
-    match mode {
-        Mode::Lines => false,
-        Mode::Tape => true,
-    }
-}
-
+#[tactic(auto, unfolding(crate::specs::Run::start_of))]
 pub fn start(mode: Mode) -> Run
     ensures { result ≡ start_of mode }
 {
-    let machine = Machine::blank();
-    let line = Line::empty();
-    let out = output::nothing();
     Run {
-        machine,
-        line,
+        machine: Machine::blank(),
+        line: Line::empty(),
         number: 1,
         halfwords: 0,
-        out,
+        out: output::nothing(),
         over: false,
-        taped: is_tape(mode),
+        mode,
         begun: false,
         pending: 0,
     }
 }
 
 // Nothing more is read.
+#[tactic(auto, unfolding(crate::specs::Run::over_of))]
 pub fn over(run: Run) -> Run
     ensures { result ≡ over_of run }
 {
-    let mut after = run;
-    after.over = true;
-    after
+    Run { over: true, ..run }
 }
 
 // After a call that has one line of output.
 fn answered(rt: &(impl Print + Eprint), run: Run, played: Played, output: &mut [u8]) -> Run {
-    let machine = played.machine;
-    let mut after = run;
-    after.machine = machine;
-    if run.taped {
-        return after;
+    let out = match run.mode {
+        Mode::Lines => say(rt, run.out, played.text, output),
+        Mode::Tape => run.out,
+    };
+    Run {
+        machine: played.machine,
+        out,
+        ..run
     }
-    let text = played.text;
-    let before = run.out;
-    let out = say(rt, before, text, output);
-    after.out = out;
-    after
 }
 
 // What a recording has to say to a person, on standard error.
@@ -127,29 +112,30 @@ fn tell_empty(rt: &impl Eprint) {
 }
 
 fn wrong(rt: &(impl Print + Eprint), run: Run, output: &mut [u8]) -> Run {
-    if run.taped {
-        tell_no_call(rt, run.number);
-        return run;
+    match run.mode {
+        Mode::Lines => answered(rt, run, calls::wrong(run.machine, run.number), output),
+        Mode::Tape => {
+            tell_no_call(rt, run.number);
+            run
+        }
     }
-    let machine = run.machine;
-    answered(rt, run, calls::wrong(machine, run.number), output)
 }
 
 // A configuration's answer, for a tape: the first that is accepted begins it, and the second ends it.
 fn begin(rt: &impl Eprint, run: Run, number: u8, machine: Machine) -> Run {
-    let mut after = run;
     if number != 0 {
         tell_refused(rt, run.number, number);
-        after.machine = machine;
-        return after;
+        return Run { machine, ..run };
     }
     if run.begun {
         tell_second(rt, run.number);
         return over(run);
     }
-    after.machine = machine;
-    after.begun = true;
-    after
+    Run {
+        machine,
+        begun: true,
+        ..run
+    }
 }
 
 fn configure(
@@ -161,64 +147,55 @@ fn configure(
     tim: u32,
     output: &mut [u8],
 ) -> Run {
-    if run.taped {
-        let answer = Machine::configure(cfg, row, refr, tim);
-        let machine = answer.machine;
-        return begin(rt, run, answer.number, machine);
+    match run.mode {
+        Mode::Lines => answered(rt, run, calls::configure(cfg, row, refr, tim), output),
+        Mode::Tape => {
+            let answer = Machine::configure(cfg, row, refr, tim);
+            begin(rt, run, answer.number, answer.machine)
+        }
     }
-    answered(rt, run, calls::configure(cfg, row, refr, tim), output)
 }
 
 // Goes on with the tape by the slots of a row of words.
 fn taped(rt: &(impl Print + Eprint), run: Run, words: &[u64], output: &mut [u8]) -> Run {
-    let before = run.out;
-    let tape = recording::add(rt, before, run.pending, words, output);
-    let out = tape.out;
-    let mut after = run;
-    after.out = out;
-    after.pending = tape.pending;
-    after
+    let tape = recording::add(rt, run.out, run.pending, words, output);
+    Run {
+        out: tape.out,
+        pending: tape.pending,
+        ..run
+    }
 }
 
 // A slot, for a tape. A refused one is none.
 fn taped_slot(rt: &(impl Print + Eprint), run: Run, carried: u16, output: &mut [u8]) -> Run {
-    let before = run.machine;
-    let answer = before.slot(carried);
+    let answer = run.machine.slot(carried);
     if answer.number != 0 {
         return run;
     }
-    let machine = answer.machine;
-    let mut after = run;
-    after.machine = machine;
-    let command = answer.command;
-    let words = [pack_command(command)];
-    taped(rt, after, &words, output)
+    let after = Run {
+        machine: answer.machine,
+        ..run
+    };
+    taped(rt, after, &[pack_command(answer.command)], output)
 }
 
 fn slot(rt: &(impl Print + Eprint), run: Run, carried: u16, output: &mut [u8]) -> Run {
-    if run.taped {
-        return taped_slot(rt, run, carried, output);
+    match run.mode {
+        Mode::Lines => answered(rt, run, calls::slot(run.machine, carried), output),
+        Mode::Tape => taped_slot(rt, run, carried, output),
     }
-    let machine = run.machine;
-    answered(rt, run, calls::slot(machine, carried), output)
 }
 
 // Puts the first `count` numbers behind the halfwords that wait, and answers how many wait then.
-fn append(bus: &mut [u16], waiting: usize, given: &[u32; NUMBERS], count: usize) -> usize {
-    let mut at = waiting;
-    let mut i = 0;
-    while i < NUMBERS {
-        if count <= i {
-            return at;
-        }
-        if bus.len() <= at {
-            return at;
-        }
-        bus[at] = (given[i] % 65536) as u16;
-        at += 1;
-        i += 1;
+fn append(bus: &mut [u16], waiting: usize, given: &[u32; NUMBERS], count: usize) -> usize
+    requires { waiting ≤ length bus.old }
+{
+    let count = count.min(NUMBERS).min(bus.len() - waiting);
+    let end = waiting + count;
+    for (place, &number) in bus[waiting..end].iter_mut().zip(given) {
+        *place = (number % 65536) as u16;
     }
-    at
+    end
 }
 
 // The call `bus`, with so many halfwords.
@@ -230,15 +207,13 @@ fn add(
     bus: &mut [u16],
     output: &mut [u8],
 ) -> Run {
-    let waiting = at_most(run.halfwords, bus.len());
+    let waiting = run.halfwords.min(bus.len());
     if bus.len() - waiting < count {
         return wrong(rt, run, output);
     }
-    let machine = run.machine;
     let halfwords = append(bus, waiting, given, count);
-    let mut after = run;
-    after.halfwords = halfwords;
-    answered(rt, after, calls::bus(machine, halfwords), output)
+    let after = Run { halfwords, ..run };
+    answered(rt, after, calls::bus(run.machine, halfwords), output)
 }
 
 // What is written for a call for many slots.
@@ -251,15 +226,13 @@ fn told(
     reports: &[u64],
     output: &mut [u8],
 ) -> Run {
-    if run.taped {
-        let n = at_most(count, commands.len());
-        return taped(rt, run, &commands[..n], output);
+    match run.mode {
+        Mode::Lines => Run {
+            out: calls::tell(rt, run.out, number, count, commands, reports, output),
+            ..run
+        },
+        Mode::Tape => taped(rt, run, &commands[..count.min(commands.len())], output),
     }
-    let before = run.out;
-    let out = calls::tell(rt, before, number, count, commands, reports, output);
-    let mut after = run;
-    after.out = out;
-    after
 }
 
 // The call for many slots, on arrays of zeros. After it no halfword waits.
@@ -271,12 +244,12 @@ fn run_slots(
     reports: &mut [u64],
     output: &mut [u8],
 ) -> Run {
-    let before = run.machine;
-    let answer = before.slots(bus, commands, reports);
-    let machine = answer.machine;
-    let mut after = run;
-    after.machine = machine;
-    after.halfwords = 0;
+    let answer = run.machine.slots(bus, commands, reports);
+    let after = Run {
+        machine: answer.machine,
+        halfwords: 0,
+        ..run
+    };
     told(
         rt,
         after,
@@ -305,9 +278,9 @@ fn slots(
 ) -> Run {
     let mut command_words = zeros();
     let mut report_words = zeros();
-    let waiting = at_most(run.halfwords, bus.len());
-    let c = at_most(commands as usize, 4096);
-    let r = at_most(reports as usize, 4096);
+    let waiting = run.halfwords.min(bus.len());
+    let c = (commands as usize).min(4096);
+    let r = (reports as usize).min(4096);
     run_slots(
         rt,
         run,
@@ -373,26 +346,25 @@ pub fn ended(
 ) -> Run
     ensures { (result.line ≡ no_line) × (result.number ≡ (run.number + 1) % 18446744073709551616) }
 {
-    let line = run.line;
-    line.end(given);
-    let played = play_call(rt, run, line.call(given), given, bus, output);
-    let empty = Line::empty();
-    let mut after = played;
-    after.line = empty;
-    after.number = std::num::wrapping_add_u64(run.number, 1);
-    after
+    run.line.end(given);
+    let played = play_call(rt, run, run.line.call(given), given, bus, output);
+    Run {
+        line: Line::empty(),
+        number: run.number.wrapping_add(1),
+        ..played
+    }
 }
 
 // Nothing more is played: the tape gets its last record. Lines need nothing more.
 pub fn finished(rt: &(impl Print + Eprint), run: Run, output: &mut [u8]) -> Out
-    ensures { run.taped ≡ false → result ≡ run.out }
+    ensures { run.mode ≡ Mode.Lines → result ≡ run.out }
 {
-    let out = run.out;
-    if run.taped {
-        if run.begun {
-            return recording::end(rt, out, run.pending, output);
+    match run.mode {
+        Mode::Lines => run.out,
+        Mode::Tape if run.begun => recording::end(rt, run.out, run.pending, output),
+        Mode::Tape => {
+            tell_empty(rt);
+            run.out
         }
-        tell_empty(rt);
     }
-    out
 }

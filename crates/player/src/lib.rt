@@ -1,38 +1,13 @@
 // Owns the playing of a script of any length from standard input.
 #![tactic(auto)]
 
-ghost use Rattle.std.specs.Prelude.{◌≤◌, ◌≡◌, false, length};
+ghost use Rattle.std.specs.Prelude.{◌≡◌, false, length};
 
 use output::{Out, fail, large_buffer, written};
 use play::{Mode, Run, ended, over};
-use script::{Line, NUMBERS};
+use script::NUMBERS;
 use std::io;
 use std::io::Read;
-
-// A line, as far as it has been read, and the place in the input where its line feed is, or the input's end.
-#[derive(Clone, Copy)]
-struct Scanned {
-    line: Line,
-    at: usize,
-}
-
-// Reads on in a line, from a place of the input.
-fn scan(line: Line, given: &mut [u32; NUMBERS], input: &[u8], from: usize) -> Scanned
-    ensures { from ≤ result.at }
-{
-    let mut line = line;
-    let mut at = from;
-    while at < input.len() {
-        let byte = input[at];
-        if byte == 10 {
-            return Scanned { line, at };
-        }
-        line.note(byte, given);
-        line = line.take(byte);
-        at += 1;
-    }
-    Scanned { line, at }
-}
 
 // Plays the input, which may begin and end within a line.
 fn play_all(
@@ -44,37 +19,30 @@ fn play_all(
     output: &mut [u8],
 ) -> Run {
     let mut run = run;
-    let mut at = 0;
-    while at < input.len() {
-        let before = run.line;
-        let scanned = scan(before, given, input, at);
-        let line = scanned.line;
-        run.line = line;
-        at = scanned.at;
-        if input.len() <= at {
-            return run;
-        }
-        at += 1;
-        run = ended(rt, run, given, bus, output);
-        if run.over {
-            return run;
+    let mut line = run.line;
+    for &byte in input {
+        if byte == b'\n' {
+            run = ended(rt, Run { line, ..run }, given, bus, output);
+            if run.over {
+                return run;
+            }
+            line = run.line;
+        } else {
+            line.note(byte, given);
+            line = line.take(byte);
         }
     }
-    run
+    Run { line, ..run }
 }
 
 // Nothing more can be read: the line under way is not played.
 fn broken(rt: &impl Eprint, run: Run, why: io::Error) -> Run {
     let failed = fail(rt, "read", why);
-    let said = run.out;
-    let out = Out {
-        waiting: said.waiting,
-        failed,
-    };
-    let mut after = run;
-    after.out = out;
-    after.over = true;
-    after
+    Run {
+        out: Out { failed, ..run.out },
+        over: true,
+        ..run
+    }
 }
 
 // Reads once, plays what came and writes what waits then.
@@ -94,17 +62,15 @@ fn turn(
         return over(run);
     }
     let played = play_all(rt, run, given, &input[..n], bus, output);
-    let said = played.out;
-    let out = written(rt, said, output);
-    let mut after = played;
-    after.out = out;
+    let out = written(rt, played.out, output);
+    let after = Run { out, ..played };
     if out.failed {
         return over(after);
     }
     after
 }
 
-// A proved loop has to end, and nothing says that a script does. So the loop counts its turns down, from a number that no run uses up.
+// A proved loop has to end, and nothing says that a script does. So the loop counts its turns, up to a number that no run reaches.
 fn turns(
     rt: &(impl Input + Print + Eprint),
     run: Run,
@@ -113,13 +79,11 @@ fn turns(
     output: &mut [u8],
 ) -> Run {
     let mut run = run;
-    let mut left = u64::MAX;
-    while left > 0 {
+    for _ in 0..u64::MAX {
         run = turn(rt, run, given, bus, output);
         if run.over {
             return run;
         }
-        left -= 1;
     }
     run
 }
@@ -139,9 +103,8 @@ pub fn play_script(rt: &(impl Input + Print + Eprint), mode: Mode) -> Out
     let mut bus = no_halfwords();
     let mut output = large_buffer();
     let run = turns(rt, play::start(mode), &mut given, &mut bus, &mut output);
-    let said = run.out;
-    if said.failed {
-        return said;
+    if run.out.failed {
+        return run.out;
     }
     // A last line without a line feed counts. After a tape's end none is under way.
     let last = ended(rt, run, &mut given, &mut bus, &mut output);

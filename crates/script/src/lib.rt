@@ -28,7 +28,7 @@ ghost use Rattle.script.specs.Line.{
 };
 
 use address::{Bank, Cell, Column, Row};
-use number::{NONE, Number};
+use number::Number;
 
 // One line of a script.
 #[derive(Clone, Copy)]
@@ -80,6 +80,7 @@ pub struct Line {
 }
 
 // The calls' words, in the form that Text::word takes.
+// Numbers and not texts: `call_of` and `letter_of` of specs/Line compare a name as the number that its letters make, and `word_of` writes it so.
 pub const CONFIG: u64 = 0x636f6e666967;
 
 pub const READ: u64 = 0x72656164;
@@ -103,32 +104,27 @@ pub const SLOTS: u64 = 0x736c6f7473;
 fn place(cfg: u32, row: u32, bank: u32, rownumber: u32, column: u32) -> Call
     ensures { result ≡ place_call cfg row bank rownumber column }
 {
-    if 255 < bank {
+    let (Ok(bank), Ok(rownumber), Ok(column)) = (
+        u8::try_from(bank),
+        u16::try_from(rownumber),
+        u16::try_from(column),
+    ) else {
         return Call::Wrong;
-    }
-    if 65535 < rownumber {
-        return Call::Wrong;
-    }
-    if 65535 < column {
-        return Call::Wrong;
-    }
+    };
     let cell = Cell {
-        bank: Bank(bank as u8),
-        row: Row(rownumber as u16),
-        column: Column(column as u16),
+        bank: Bank(bank),
+        row: Row(rownumber),
+        column: Column(column),
     };
     Call::Address(cfg, row, cell)
 }
 
 // Is one of the numbers more than a halfword, where that is known of those before this one?
 #[tactic(auto, unfolding(crate::specs::Line::wide_of))]
-fn wider(wide: bool, value: u64) -> bool
+fn wider(wide: bool, value: u32) -> bool
     ensures { result ≡ wide_of wide value }
 {
-    if 65535 < value {
-        return true;
-    }
-    wide
+    65535 < value || wide
 }
 
 impl Words {
@@ -139,35 +135,22 @@ impl Words {
     {
         Words {
             wrong: true,
-            name: self.name,
-            at: self.at,
             number: Number::Wrong,
-            wide: self.wide,
+            ..self
         }
     }
 
-    // One byte more of the name.
+    // One byte more of the name: a small letter, where it has not eight letters already.
     #[tactic(auto, unfolding(crate::specs::Line::letter_of))]
     fn letter(self, byte: u8) -> Words
         ensures { result ≡ letter_of self byte }
     {
-        if byte < 97 {
-            return self.ruined();
-        }
-        if 122 < byte {
-            return self.ruined();
-        }
-        // It has eight letters already.
-        if 72057594037927935 < self.name {
-            return self.ruined();
-        }
-        let number = self.number;
-        Words {
-            wrong: self.wrong,
-            name: self.name * 256 + byte as u64,
-            at: self.at,
-            number,
-            wide: self.wide,
+        match byte {
+            b'a'..=b'z' if self.name <= 72057594037927935 => Words {
+                name: self.name * 256 + byte as u64,
+                ..self
+            },
+            _ => self.ruined(),
         }
     }
 
@@ -176,14 +159,9 @@ impl Words {
     fn figure(self, byte: u8) -> Words
         ensures { result ≡ figure_of self byte }
     {
-        let before = self.number;
-        let number = before.take(byte);
         Words {
-            wrong: self.wrong,
-            name: self.name,
-            at: self.at,
-            number,
-            wide: self.wide,
+            number: self.number.take(byte),
+            ..self
         }
     }
 
@@ -194,27 +172,22 @@ impl Words {
     {
         if self.at == 0 {
             return Words {
-                wrong: self.wrong,
-                name: self.name,
                 at: 1,
                 number: Number::Empty,
-                wide: self.wide,
+                ..self
             };
         }
         if NUMBERS < self.at {
             return self.ruined();
         }
-        let number = self.number;
-        let value = number.value();
-        if NONE <= value {
-            return self.ruined();
-        }
-        Words {
-            wrong: self.wrong,
-            name: self.name,
-            at: self.at + 1,
-            number: Number::Empty,
-            wide: wider(self.wide, value),
+        match self.number.value() {
+            Some(value) => Words {
+                at: self.at + 1,
+                number: Number::Empty,
+                wide: wider(self.wide, value),
+                ..self
+            },
+            None => self.ruined(),
         }
     }
 
@@ -223,19 +196,12 @@ impl Words {
     fn keep(self, given: &mut [u32; NUMBERS])
         ensures { given.new ≡ kept_of self given.old }
     {
-        let at = self.at;
-        if at == 0 {
+        if self.at == 0 || NUMBERS < self.at {
             return;
         }
-        if NUMBERS < at {
-            return;
+        if let Some(value) = self.number.value() {
+            given[self.at - 1] = value;
         }
-        let number = self.number;
-        let value = number.value();
-        if NONE <= value {
-            return;
-        }
-        given[at - 1] = value as u32;
     }
 
     // One byte more.
@@ -243,13 +209,11 @@ impl Words {
     fn take(self, byte: u8) -> Words
         ensures { result ≡ words_of self byte }
     {
-        if byte == 32 {
-            return self.next();
+        match byte {
+            b' ' => self.next(),
+            _ if self.at == 0 => self.letter(byte),
+            _ => self.figure(byte),
         }
-        if self.at == 0 {
-            return self.letter(byte);
-        }
-        self.figure(byte)
     }
 
     #[tactic(auto, unfolding(crate::specs::Line::config_call))]
@@ -276,28 +240,20 @@ impl Words {
     fn write(self, n: &[u32; NUMBERS]) -> Call
         ensures { result ≡ write_call self n.now }
     {
-        let halfword = n[1];
-        if 65535 < halfword {
-            return Call::Wrong;
+        match u16::try_from(n[1]) {
+            Ok(halfword) if self.at == 3 => Call::Write(n[0], halfword),
+            _ => Call::Wrong,
         }
-        if self.at == 3 {
-            return Call::Write(n[0], halfword as u16);
-        }
-        Call::Wrong
     }
 
     #[tactic(auto, unfolding(crate::specs::Line::slot_call))]
     fn slot(self, n: &[u32; NUMBERS]) -> Call
         ensures { result ≡ slot_call self n.now }
     {
-        let halfword = n[0];
-        if 65535 < halfword {
-            return Call::Wrong;
+        match u16::try_from(n[0]) {
+            Ok(halfword) if self.at == 2 => Call::Slot(halfword),
+            _ => Call::Wrong,
         }
-        if self.at == 2 {
-            return Call::Slot(halfword as u16);
-        }
-        Call::Wrong
     }
 
     #[tactic(auto, unfolding(crate::specs::Line::backlog_call))]
@@ -334,10 +290,7 @@ impl Words {
     fn bus(self) -> Call
         ensures { result ≡ bus_call self }
     {
-        if self.at < 2 {
-            return Call::Wrong;
-        }
-        if self.wide {
+        if self.at < 2 || self.wide {
             return Call::Wrong;
         }
         Call::Bus(self.at - 1)
@@ -369,8 +322,7 @@ impl Words {
         if self.wrong {
             return Call::Wrong;
         }
-        let name = self.name;
-        match name {
+        match self.name {
             CONFIG => self.config(given),
             READ => self.read(given),
             WRITE => self.write(given),
@@ -410,18 +362,16 @@ impl Line {
     pub fn note(self, byte: u8, given: &mut [u32; NUMBERS])
         ensures { given.new ≡ noted_of self byte given.old }
     {
-        if byte != 32 {
-            return;
+        if byte == b' ' {
+            self.end(given);
         }
-        self.end(given);
     }
 
     // The line ends here: so does its last number.
     pub fn end(self, given: &mut [u32; NUMBERS])
         ensures { given.new ≡ kept_of self.words given.old }
     {
-        let words = self.words;
-        words.keep(given);
+        self.words.keep(given);
     }
 
     // One byte more, which is no line feed.
@@ -429,26 +379,23 @@ impl Line {
     pub fn take(self, byte: u8) -> Line
         ensures { result ≡ take_of self byte }
     {
-        let before = self.words;
-        let words = before.take(byte);
-        if 255 <= self.size {
-            return Line {
-                size: 256,
-                comment: self.comment,
-                words,
-            };
-        }
-        if self.size == 0 {
-            return Line {
+        let words = self.words.take(byte);
+        match self.size {
+            0 => Line {
                 size: 1,
-                comment: byte == 35,
+                comment: byte == b'#',
                 words,
-            };
-        }
-        Line {
-            size: self.size + 1,
-            comment: self.comment,
-            words,
+            },
+            1..=254 => Line {
+                size: self.size + 1,
+                words,
+                ..self
+            },
+            _ => Line {
+                size: 256,
+                words,
+                ..self
+            },
         }
     }
 
@@ -466,8 +413,6 @@ impl Line {
         if 255 < self.size {
             return Call::Wrong;
         }
-        let words = self.words;
-        let all = words.next();
-        all.call(given)
+        self.words.next().call(given)
     }
 }

@@ -20,143 +20,82 @@ struct Show {
     machine: Machine,
     // How many idle slots came last and are not printed yet.
     idle: u64,
-    // The slot in which the last READ's halfword is on the bus, 0 if there was no READ.
-    due: u64,
-}
-
-fn say(rt: &impl Print, text: &str) -> io::Result<()> {
-    rt.print(text)
-}
-
-// A word and a number.
-fn tell(rt: &impl Print, text: &str, n: u64) -> io::Result<()> {
-    print!(rt; "{text}{n}")
+    // The slot in which the last READ's halfword is on the bus, if there was a READ.
+    due: Option<u64>,
 }
 
 fn tell_command(rt: &impl Print, command: Command) -> io::Result<()> {
     match command {
-        Command::Nop => say(rt, "NOP"),
-        Command::Act(bank, row) => {
-            tell(rt, "ACT bank ", bank.0 as u64)?;
-            tell(rt, " row ", row.0 as u64)
-        }
-        Command::Read(bank, column) => {
-            tell(rt, "READ bank ", bank.0 as u64)?;
-            tell(rt, " column ", column.0 as u64)
-        }
+        Command::Nop => print!(rt; "NOP"),
+        Command::Act(bank, row) => print!(rt; "ACT bank {} row {}", bank.0, row.0),
+        Command::Read(bank, column) => print!(rt; "READ bank {} column {}", bank.0, column.0),
         Command::Wrt(bank, column, halfword) => {
-            tell(rt, "WRT bank ", bank.0 as u64)?;
-            tell(rt, " column ", column.0 as u64)?;
-            tell(rt, " halfword ", halfword as u64)
+            print!(rt;
+                "WRT bank {} column {} halfword {halfword}",
+                bank.0, column.0
+            )
         }
-        Command::Pre(bank) => tell(rt, "PRE bank ", bank.0 as u64),
-        Command::Deac => say(rt, "DEAC"),
-        Command::Refr => say(rt, "REFR"),
-        Command::Mrs(word) => tell(rt, "MRS word ", word as u64),
+        Command::Pre(bank) => print!(rt; "PRE bank {}", bank.0),
+        Command::Deac => print!(rt; "DEAC"),
+        Command::Refr => print!(rt; "REFR"),
+        Command::Mrs(word) => print!(rt; "MRS word {word}"),
     }
 }
 
 fn tell_report(rt: &impl Print, report: Report) -> io::Result<()> {
     match report {
-        Report::Nothing => say(rt, "\n"),
+        Report::Nothing => println!(rt),
         Report::Read(number, halfword) => {
-            tell(rt, ", reports read ", number as u64)?;
-            tell(rt, " halfword ", halfword as u64)?;
-            say(rt, "\n")
+            println!(rt; ", reports read {number} halfword {halfword}")
         }
-        Report::Write(number) => {
-            tell(rt, ", reports write ", number as u64)?;
-            say(rt, "\n")
-        }
-    }
-}
-
-fn is_idle(command: Command, report: Report) -> bool {
-    match command {
-        Command::Nop => match report {
-            Report::Nothing => true,
-            Report::Read(_, _) => false,
-            Report::Write(_) => false,
-        },
-        Command::Act(_, _) => false,
-        Command::Read(_, _) => false,
-        Command::Wrt(_, _, _) => false,
-        Command::Pre(_) => false,
-        Command::Deac => false,
-        Command::Refr => false,
-        Command::Mrs(_) => false,
-    }
-}
-
-fn is_read(command: Command) -> bool {
-    match command {
-        Command::Nop => false,
-        Command::Act(_, _) => false,
-        Command::Read(_, _) => true,
-        Command::Wrt(_, _, _) => false,
-        Command::Pre(_) => false,
-        Command::Deac => false,
-        Command::Refr => false,
-        Command::Mrs(_) => false,
+        Report::Write(number) => println!(rt; ", reports write {number}"),
     }
 }
 
 // The idle slots before slot t.
 fn tell_idle(rt: &impl Print, t: u64, idle: u64) -> io::Result<()> {
-    if idle == 0 {
+    if idle == 0 || t < idle {
         return Ok(());
     }
-    if t < idle {
-        return Ok(());
-    }
+    let first = t - idle;
     if idle == 1 {
-        tell(rt, "slot ", t - idle)?;
-        return say(rt, ": NOP\n");
+        return println!(rt; "slot {first}: NOP");
     }
-    tell(rt, "slots ", t - idle)?;
-    tell(rt, " to ", t - 1)?;
-    say(rt, ": NOP\n")
+    println!(rt; "slots {first} to {}: NOP", t - 1)
 }
 
 fn tell_slot(rt: &impl Print, t: u64, command: Command, report: Report) -> io::Result<()> {
-    tell(rt, "slot ", t)?;
-    say(rt, ": ")?;
+    print!(rt; "slot {t}: ")?;
     tell_command(rt, command)?;
     tell_report(rt, report)
 }
 
 // What an SDRAM has on the bus in slot t; the machine ignores the bus in all other slots.
-fn bus(t: u64, due: u64) -> u16 {
-    if t == due {
-        return HALFWORD;
-    }
-    0
+fn bus(t: u64, due: Option<u64>) -> u16 {
+    if due == Some(t) { HALFWORD } else { 0 }
 }
 
-fn due_after(t: u64, due: u64, command: Command) -> u64 {
-    if is_read(command) {
-        return std::num::wrapping_add_u64(t, LATENCY);
+fn due_after(t: u64, due: Option<u64>, command: Command) -> Option<u64> {
+    match command {
+        Command::Read(_, _) => Some(t.wrapping_add(LATENCY)),
+        _ => due,
     }
-    due
 }
 
 // Slot t.
 fn step(rt: &impl Print, before: Show, t: u64) -> io::Result<Show> {
-    let m = before.machine;
-    let slot = m.slot(bus(t, before.due));
+    let slot = before.machine.slot(bus(t, before.due));
     let machine = slot.machine;
-    let command = slot.command;
-    let report = slot.report;
-    let due = due_after(t, before.due, command);
-    if is_idle(command, report) {
+    let due = due_after(t, before.due, slot.command);
+    if matches!((slot.command, slot.report), (Command::Nop, Report::Nothing)) {
         return Ok(Show {
             machine,
-            idle: std::num::wrapping_add_u64(before.idle, 1),
+            idle: before.idle.wrapping_add(1),
             due,
         });
     }
     tell_idle(rt, t, before.idle)?;
-    tell_slot(rt, t, command, report)?;
+    tell_slot(rt, t, slot.command, slot.report)?;
     Ok(Show {
         machine,
         idle: 0,
@@ -166,10 +105,8 @@ fn step(rt: &impl Print, before: Show, t: u64) -> io::Result<Show> {
 
 fn run(rt: &impl Print, start: Show) -> io::Result<Show> {
     let mut show = start;
-    let mut t = 1;
-    while t <= SLOTS {
+    for t in 1..=SLOTS {
         show = step(rt, show, t)?;
-        t += 1;
     }
     Ok(show)
 }
@@ -177,29 +114,28 @@ fn run(rt: &impl Print, start: Show) -> io::Result<Show> {
 // E1's machine.
 fn configured(rt: &impl Print) -> io::Result<Machine> {
     let answer = Machine::configure(0x4400, 0, 27, 0);
-    tell(
-        rt,
-        "CFG 0x4400, ROW 0, REF 27, TIM 0: answer ",
-        answer.number as u64,
+    println!(rt;
+        "CFG 0x4400, ROW 0, REF 27, TIM 0: answer {}",
+        answer.number
     )?;
-    say(rt, "\n")?;
     Ok(answer.machine)
 }
 
 fn after_write(rt: &impl Print, m: Machine) -> io::Result<Machine> {
     let answer = m.request(Kind::Write, 0, HALFWORD);
-    tell(rt, "write to address 0, halfword ", HALFWORD as u64)?;
-    tell(rt, ": answer ", answer.number as u64)?;
-    tell(rt, ", request ", answer.request as u64)?;
-    say(rt, "\n")?;
+    println!(rt;
+        "write to address 0, halfword {HALFWORD}: answer {}, request {}",
+        answer.number, answer.request
+    )?;
     Ok(answer.machine)
 }
 
 fn after_read(rt: &impl Print, m: Machine) -> io::Result<Machine> {
     let answer = m.request(Kind::Read, 0, 0);
-    tell(rt, "read of address 0: answer ", answer.number as u64)?;
-    tell(rt, ", request ", answer.request as u64)?;
-    say(rt, "\n")?;
+    println!(rt;
+        "read of address 0: answer {}, request {}",
+        answer.number, answer.request
+    )?;
     Ok(answer.machine)
 }
 
@@ -211,7 +147,7 @@ fn main(rt: HostRuntime) -> io::Result<()> {
         Show {
             machine,
             idle: 0,
-            due: 0,
+            due: None,
         },
     )?;
     tell_idle(&rt, SLOTS + 1, end.idle)

@@ -5,6 +5,7 @@ ghost use Rattle.std.specs.Prelude.{◌≡◌, ◌+◌, ◌≤◌, ◌<◌};
 ghost use Rattle.text.specs.Spelling.{empty_of, byte_of, spelled_of, word_of, decimal_of};
 
 // The text is the first `count` bytes. It has room for 64; what comes after them is dropped.
+// An array with a count and not a String: there is no heap.
 #[derive(Clone, Copy)]
 pub struct Text {
     pub bytes: [u8; 64],
@@ -38,17 +39,14 @@ impl Text {
     }
 
     #[tactic(auto, unfolding(crate::specs::Spelling::byte_of))]
-    pub fn byte(self, b: u8) -> Text
+    pub fn byte(mut self, b: u8) -> Text
         ensures { result ≡ byte_of self b }
     {
-        let n = self.count;
-        if 64 <= n {
-            return self;
+        if self.count < 64 {
+            self.bytes[self.count] = b;
+            self.count += 1;
         }
-        let mut t = self;
-        t.bytes[n] = b;
-        t.count = n + 1;
-        t
+        self
     }
 
     // A word is handed in as a number, eight bits for each letter, the first letter highest.

@@ -1,9 +1,0 @@
--- The loop counts up to the requests of a call.
-use Rattle.std.proofs.Common.{◌-◌, ◌≤◌}
-use Rattle.bench_slots.proofs.asked.Given as goal
-
-abbrev pub invariant-loop-i : goal.invariant-loop-i
-invariant-loop-i l = l.i ≤ 64
-
-abbrev pub decreases-loop-i : goal.decreases-loop-i
-decreases-loop-i l = 64 - l.i

@@ -1,0 +1,2 @@
+-- The stream of words.
+pub mod Stream
