@@ -102,12 +102,12 @@ pub fn judge(cfg: u32, row: u32, refr: u32, tim: u32, tape: &[u8]) -> Verdict
     ensures value { result ≡ judge_of cfg row refr tim tape.now }
     ensures slot_bound { result.slot < 2 ^ 40 }
 {
-    let setting = config::configure(cfg, row, refr, tim);
-    if setting.number != 0 {
-        return said(setting.number);
-    }
+    let config = match config::configure(cfg, row, refr, tim) {
+        Ok(config) => config,
+        Err(refusal) => return said(refusal.number()),
+    };
     if LONGEST < tape.len() {
         return said(19);
     }
-    judged(setting.config, tape)
+    judged(config, tape)
 }
