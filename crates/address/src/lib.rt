@@ -3,7 +3,7 @@
 #![tactic(auto)]
 
 ghost use Rattle.std.specs.Prelude.{◌≡◌, ◌<◌, ◌≤◌, ◌^◌, ltb};
-ghost use Rattle.refusal.specs.Refused.{checked_in};
+ghost use Rattle.refusal.specs.Refused.{number_in};
 ghost use Rattle.config.specs.Accepted.{Shaped};
 ghost use Rattle.address.specs.Map.{capacity_of, cell_of, address_number_of, block_of};
 
@@ -59,7 +59,7 @@ fn capacity(g: Geometry) -> u32
 #[tactic(auto, unfolding(crate::specs::Map::address_number_of))]
 pub fn check_address(g: Geometry, address: u32) -> Result<(), Refusal>
     requires { Shaped g }
-    ensures { checked_in result ≡ address_number_of g address }
+    ensures { number_in result ≡ address_number_of g address }
 {
     if address % 2 == 1 {
         return Err(Refusal::OddAddress);

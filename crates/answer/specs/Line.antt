@@ -1,5 +1,6 @@
 -- What a line says, in document 01's and document 02's numbers and values, and the code's answers as lines.
 use Rattle.std.specs.Prelude.{ℕ}
+use Rattle.refusal.specs.Refused.{number_in, value_in}
 use Rattle.command.specs.declared.Command.{Command}
 use Rattle.plan.specs.declared.Report.{Report}
 use Rattle.standalone.specs.Standalone.{ToCell, ToAddress}
@@ -26,15 +27,15 @@ pub data Line : Type 0 where
   Refused : (number place : ℕ) → Line
 
 abbrev pub line_in : Answer → Line
-line_in (Answer.Config n) = Config n
-line_in (Answer.Read n r) = Read n r
-line_in (Answer.Write n r) = Write n r
-line_in (Answer.Slot n c r) = Slot n c r
-line_in (Answer.Backlog n b) = Backlog n b
+line_in (Answer.Config a) = Config (number_in a)
+line_in (Answer.Read a) = Read (number_in a) (value_in a)
+line_in (Answer.Write a) = Write (number_in a) (value_in a)
+line_in (Answer.Slot a c r) = Slot (number_in a) c r
+line_in (Answer.Backlog a) = Backlog (number_in a) (value_in a)
 line_in (Answer.Cell a) = Cell (cell_in a)
 line_in (Answer.Address a) = Address (address_in a)
 line_in (Answer.Bus n) = Bus n
-line_in (Answer.Slots n k) = Slots n k
+line_in (Answer.Slots a) = Slots (number_in a) (value_in a)
 line_in (Answer.Packed c r) = Packed c r
 line_in Answer.Unknown = Unknown
 line_in (Answer.Wrong n) = Wrong n

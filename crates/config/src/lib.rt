@@ -3,7 +3,7 @@
 
 ghost use Rattle.std.specs.Prelude.{◌≡◌, ◌<◌, ◌≤◌};
 ghost use Rattle.words.specs.Words.{bits, field_of};
-ghost use Rattle.refusal.specs.Refused.{checked_in};
+ghost use Rattle.refusal.specs.Refused.{number_in};
 ghost use Rattle.config.specs.Setting.{no_config, offered_of, geometry_of, config_of, too_short, checked_of, setting_of, map_number_of, slots, access_span, refresh_span};
 ghost use Rattle.config.specs.Answer.{setting_in};
 ghost use Rattle.config.specs.Accepted.{outside_of, shaped_of, distances_of, spanned_of, accepted_of};
@@ -172,7 +172,7 @@ pub fn configure(cfg: u32, row: u32, refr: u32, tim: u32) -> Result<Config, Refu
 // Does the standalone map take these two words?
 #[tactic(auto, unfolding(crate::specs::Setting::map_number_of))]
 pub fn check_map(cfg: u32, row: u32) -> Result<(), Refusal>
-    ensures { checked_in result ≡ map_number_of cfg row }
+    ensures { number_in result ≡ map_number_of cfg row }
 {
     if words::map_reserved(cfg, row) {
         Err(Refusal::ReservedBit)

@@ -3,7 +3,7 @@
 #![tactic(auto)]
 
 ghost use Rattle.std.specs.Prelude.{ℕ, ◌≡◌, Bool, List};
-ghost use Rattle.refusal.specs.Refused.{checked_in};
+ghost use Rattle.refusal.specs.Refused.{number_in};
 ghost use Rattle.config.specs.Accepted.{accepted_of};
 ghost use Rattle.ages.specs.Ages.{past_of};
 ghost use Rattle.plan.specs.Actions.{control_of};
@@ -49,7 +49,7 @@ pub fn check_record(
     count: u32,
 ) -> Result<(), Refusal>
     requires { config_accepted ≡ accepted_of config }
-    ensures { (ages rows : List ℕ) (must : Bool) → checked_in result ≡ record_number_by configured config (past_of ages opened.now rows programmed) counters (control_of action must) count }
+    ensures { (ages rows : List ℕ) (must : Bool) → number_in result ≡ record_number_by configured config (past_of ages opened.now rows programmed) counters (control_of action must) count }
 {
     if !configured {
         return Err(Refusal::Blank);
@@ -66,7 +66,7 @@ pub fn check_record(
 // Is there room in the queue, and then a number, for one request more?
 #[tactic(auto, unfolding(crate::specs::Numbers::room_number_of))]
 fn check_room(count: u32, accepted: u32) -> Result<(), Refusal>
-    ensures { checked_in result ≡ room_number_of count accepted }
+    ensures { number_in result ≡ room_number_of count accepted }
 {
     if 8 <= count {
         return Err(Refusal::QueueFull);
@@ -92,7 +92,7 @@ pub fn check_request(
     address: u32,
 ) -> Result<(), Refusal>
     requires { config_accepted ≡ accepted_of config }
-    ensures { (ages rows : List ℕ) (must : Bool) → checked_in result ≡ request_number_by configured config (past_of ages opened.now rows programmed) counters (control_of action must) count accepted address }
+    ensures { (ages rows : List ℕ) (must : Bool) → number_in result ≡ request_number_by configured config (past_of ages opened.now rows programmed) counters (control_of action must) count accepted address }
 {
     check_record(
         configured,

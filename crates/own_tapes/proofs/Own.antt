@@ -17,7 +17,7 @@ use Rattle.tape.specs.Reading.{end, contents_of}
 use Rattle.tape.specs.Laws.{Fit}
 use Rattle.tape.proofs.Tapes.{tapes}
 use Rattle.sequencer.specs.declared.Machine.{Machine}
-use Rattle.sequencer.specs.declared.Configured.{Configured}
+use Rattle.sequencer.specs.Answers.{Configured}
 use Rattle.sequencer.specs.Machine.{machine_of, blank_of}
 use Rattle.sequencer.specs.Calls.{configured_by, configure_of, record_number_of}
 use Rattle.sequencer.specs.Batch.{series_of, batch_of, many_slots_of, count_of}

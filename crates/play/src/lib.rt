@@ -10,8 +10,9 @@ use calls::Played;
 use output::{Out, at_most, say};
 use packing::pack_command;
 use queue::Kind;
+use refusal::Refusal;
 use script::{Call, Line, NUMBERS};
-use sequencer::Machine;
+use sequencer::{Answered, Machine};
 
 // What is written.
 #[derive(Clone, Copy)]
@@ -105,8 +106,9 @@ fn tell_no_call(rt: &impl Eprint, line: u64) {
     tell(rt, " is no call and is passed over\n");
 }
 
-fn tell_refused(rt: &impl Eprint, line: u64, number: u8) {
+fn tell_refused(rt: &impl Eprint, line: u64, refusal: Refusal) {
     tell_line(rt, line);
+    let number = refusal.number();
     let _ = eprint!(rt; ": the configuration is refused with number {number}");
     tell(rt, "; slots are refused until another is accepted\n");
 }
@@ -136,10 +138,11 @@ fn wrong(rt: &(impl Print + Eprint), run: Run, output: &mut [u8]) -> Run {
 }
 
 // A configuration's answer, for a tape: the first that is accepted begins it, and the second ends it.
-fn begin(rt: &impl Eprint, run: Run, number: u8, machine: Machine) -> Run {
+fn begin(rt: &impl Eprint, run: Run, configured: Answered<()>) -> Run {
+    let machine = configured.machine;
     let mut after = run;
-    if number != 0 {
-        tell_refused(rt, run.number, number);
+    if let Err(refusal) = configured.answer {
+        tell_refused(rt, run.number, refusal);
         after.machine = machine;
         return after;
     }
@@ -162,9 +165,7 @@ fn configure(
     output: &mut [u8],
 ) -> Run {
     if run.taped {
-        let answer = Machine::configure(cfg, row, refr, tim);
-        let machine = answer.machine;
-        return begin(rt, run, answer.number, machine);
+        return begin(rt, run, Machine::configure(cfg, row, refr, tim));
     }
     answered(rt, run, calls::configure(cfg, row, refr, tim), output)
 }
@@ -183,14 +184,14 @@ fn taped(rt: &(impl Print + Eprint), run: Run, words: &[u64], output: &mut [u8])
 // A slot, for a tape. A refused one is none.
 fn taped_slot(rt: &(impl Print + Eprint), run: Run, carried: u16, output: &mut [u8]) -> Run {
     let before = run.machine;
-    let answer = before.slot(carried);
-    if answer.number != 0 {
+    let slot = before.slot(carried);
+    if slot.answer.is_err() {
         return run;
     }
-    let machine = answer.machine;
+    let machine = slot.machine;
     let mut after = run;
     after.machine = machine;
-    let command = answer.command;
+    let command = slot.command;
     let words = [pack_command(command)];
     taped(rt, after, &words, output)
 }
@@ -245,18 +246,17 @@ fn add(
 fn told(
     rt: &(impl Print + Eprint),
     run: Run,
-    number: u8,
-    count: usize,
+    answer: Result<usize, Refusal>,
     commands: &[u64],
     reports: &[u64],
     output: &mut [u8],
 ) -> Run {
     if run.taped {
-        let n = at_most(count, commands.len());
+        let n = at_most(answer.unwrap_or(0), commands.len());
         return taped(rt, run, &commands[..n], output);
     }
     let before = run.out;
-    let out = calls::tell(rt, before, number, count, commands, reports, output);
+    let out = calls::tell(rt, before, answer, commands, reports, output);
     let mut after = run;
     after.out = out;
     after
@@ -272,20 +272,12 @@ fn run_slots(
     output: &mut [u8],
 ) -> Run {
     let before = run.machine;
-    let answer = before.slots(bus, commands, reports);
-    let machine = answer.machine;
+    let ran = before.slots(bus, commands, reports);
+    let machine = ran.machine;
     let mut after = run;
     after.machine = machine;
     after.halfwords = 0;
-    told(
-        rt,
-        after,
-        answer.number,
-        answer.count,
-        commands,
-        reports,
-        output,
-    )
+    told(rt, after, ran.answer, commands, reports, output)
 }
 
 fn zeros() -> [u64; 4096]

@@ -2,7 +2,7 @@
 use native.Mathlib.Omega.{arith}
 use Rattle.std.proofs.Common.{ℕ, ◌≡◌, refl, sym, ap, ◌∙◌, ◌≤◌, zero, suc}
 use Rattle.std.specs.Prelude.{Result, Ok, Err, ⊤}
-use Rattle.refusal.specs.Refused.{number_of, checked_in, Numbered}
+use Rattle.refusal.specs.Refused.{number_of, number_in, value_in, Numbered}
 use Rattle.refusal.specs.declared.Refusal.{Refusal}
 use Rattle.refusal.specs.declared.Refusal.TheVariants.{ReservedBit, NotOffered, IntervalTooShort, OddAddress, BeyondDevice, QueueFull, NumbersUsedUp, Blank, Unsound, OutsideGeometry}
 
@@ -34,29 +34,6 @@ back OutsideGeometry = refl
 pub one_each : (r s : Refusal) → number_of r ≡ number_of s → r ≡ s
 one_each r s e = sym (back r) ∙ ap refusal_at e ∙ back s
 
-abbrev answer_at : ℕ → Result ⊤ Refusal
-answer_at zero = Ok tt
-answer_at (suc n) = Err (refusal_at (suc n))
-
-answer_back : (a : Result ⊤ Refusal) → answer_at (checked_in a) ≡ a
-answer_back (Ok _) = refl
-answer_back (Err r) = by r
-  where
-    by : (r : Refusal) → answer_at (number_of r) ≡ Err r
-    by ReservedBit = refl
-    by NotOffered = refl
-    by IntervalTooShort = refl
-    by OddAddress = refl
-    by BeyondDevice = refl
-    by QueueFull = refl
-    by NumbersUsedUp = refl
-    by Blank = refl
-    by Unsound = refl
-    by OutsideGeometry = refl
-
-pub checked : (a b : Result ⊤ Refusal) → checked_in a ≡ checked_in b → a ≡ b
-checked a b e = sym (answer_back a) ∙ ap answer_at e ∙ answer_back b
-
 pub least : (r : Refusal) → 1 ≤ number_of r
 least ReservedBit = omega arith
 least NotOffered = omega arith
@@ -81,5 +58,21 @@ most Blank = omega arith
 most Unsound = omega arith
 most OutsideGeometry = omega arith
 
+-- an acceptance and a refusal have no number in common
+apart : (r : Refusal) → 0 ≡ number_of r → ⊥
+apart r e = omega (arith, least r, e)
+
+tested : (a b : Result ⊤ Refusal) → number_in a ≡ number_in b → a ≡ b
+tested (Ok _) (Ok _) e = refl
+tested (Ok _) (Err r) e = absurd (apart r e)
+tested (Err r) (Ok _) e = absurd (apart r (sym e))
+tested (Err r) (Err s) e = ap Err (one_each r s e)
+
+valued : (a b : Result ℕ Refusal) → number_in a ≡ number_in b → value_in a ≡ value_in b → a ≡ b
+valued (Ok n) (Ok m) e f = ap Ok f
+valued (Ok n) (Err r) e f = absurd (apart r e)
+valued (Err r) (Ok m) e f = absurd (apart r (sym e))
+valued (Err r) (Err s) e f = ap Err (one_each r s e)
+
 numbered : Numbered
-numbered = record { one_each = one_each; least = least; most = most; checked = checked }
+numbered = record { one_each = one_each; least = least; most = most; tested = tested; valued = valued }

@@ -15,14 +15,22 @@ number_of Blank = 8
 number_of Unsound = 9
 number_of OutsideGeometry = 10
 
--- the number of an answer that carries no value: 0 where nothing is refused
-abbrev pub checked_in : Result ⊤ Refusal → ℕ
-checked_in (Ok _) = 0
-checked_in (Err r) = number_of r
+-- An answer is what was asked for, or a refusal.
 
--- No two answers have one number, and no refusal has that of an acceptance.
+-- its number: 0 where nothing is refused
+abbrev pub number_in : {A : Type 0} → Result A Refusal → ℕ
+number_in (Ok _) = 0
+number_in (Err r) = number_of r
+
+-- its value: 0 where it is refused
+abbrev pub value_in : Result ℕ Refusal → ℕ
+value_in (Ok n) = n
+value_in (Err _) = 0
+
+-- No two refusals have one number, none has that of an acceptance, and an answer's number and value leave nothing of it out.
 pub record Numbered : Type 0 where
   pub one_each : (r s : Refusal) → number_of r ≡ number_of s → r ≡ s
   pub least : (r : Refusal) → 1 ≤ number_of r
   pub most : (r : Refusal) → number_of r ≤ 10
-  pub checked : (a b : Result ⊤ Refusal) → checked_in a ≡ checked_in b → a ≡ b
+  pub tested : (a b : Result ⊤ Refusal) → number_in a ≡ number_in b → a ≡ b
+  pub valued : (a b : Result ℕ Refusal) → number_in a ≡ number_in b → value_in a ≡ value_in b → a ≡ b

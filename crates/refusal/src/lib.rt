@@ -2,7 +2,7 @@
 #![tactic(auto)]
 
 ghost use Rattle.std.specs.Prelude.{◌≡◌};
-ghost use Rattle.refusal.specs.Refused.{number_of};
+ghost use Rattle.refusal.specs.Refused.{number_of, number_in};
 
 // Why the sequencer or the standalone map refuses. Each case's number is the one that programs and C print.
 #[derive(Clone, Copy, Debug, PartialEq, Eq)]
@@ -45,5 +45,15 @@ impl Refusal {
             Refusal::Unsound => 9,
             Refusal::OutsideGeometry => 10,
         }
+    }
+}
+
+// An answer's number: 0 where nothing is refused.
+pub fn number_in<T>(answer: &Result<T, Refusal>) -> u8
+    ensures { result ≡ number_in answer.now }
+{
+    match answer {
+        Ok(_) => 0,
+        Err(refusal) => refusal.number(),
     }
 }

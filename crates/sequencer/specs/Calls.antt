@@ -10,10 +10,7 @@ use Rattle.plan.specs.declared.Report.TheVariants.{Nothing}
 use Rattle.numbers.specs.Numbers.{record_number_by, request_number_by}
 use Rattle.sequencer.specs.Machine.{machine_with, blank_of, machine_of, step_of}
 use Rattle.sequencer.specs.declared.Machine.{Machine}
-use Rattle.sequencer.specs.declared.Configured.{Configured}
-use Rattle.sequencer.specs.declared.Requested.{Requested}
-use Rattle.sequencer.specs.declared.Slot.{Slot}
-use Rattle.sequencer.specs.declared.Reading.{Reading}
+use Rattle.sequencer.specs.Answers.{Reading, Slot, Requested, Configured}
 
 -- Configuration: 1, 2 or 3 with the blank machine, or 0 with the machine.
 

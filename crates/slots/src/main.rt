@@ -5,6 +5,7 @@
 use command::Command;
 use plan::Report;
 use queue::Kind;
+use refusal::number_in;
 use sequencer::Machine;
 use std::io;
 
@@ -180,7 +181,7 @@ fn configured(rt: &impl Print) -> io::Result<Machine> {
     tell(
         rt,
         "CFG 0x4400, ROW 0, REF 27, TIM 0: answer ",
-        answer.number as u64,
+        number_in(&answer.answer) as u64,
     )?;
     say(rt, "\n")?;
     Ok(answer.machine)
@@ -189,16 +190,20 @@ fn configured(rt: &impl Print) -> io::Result<Machine> {
 fn after_write(rt: &impl Print, m: Machine) -> io::Result<Machine> {
     let answer = m.request(Kind::Write, 0, HALFWORD);
     tell(rt, "write to address 0, halfword ", HALFWORD as u64)?;
-    tell(rt, ": answer ", answer.number as u64)?;
-    tell(rt, ", request ", answer.request as u64)?;
+    tell(rt, ": answer ", number_in(&answer.answer) as u64)?;
+    tell(rt, ", request ", answer.answer.unwrap_or(0) as u64)?;
     say(rt, "\n")?;
     Ok(answer.machine)
 }
 
 fn after_read(rt: &impl Print, m: Machine) -> io::Result<Machine> {
     let answer = m.request(Kind::Read, 0, 0);
-    tell(rt, "read of address 0: answer ", answer.number as u64)?;
-    tell(rt, ", request ", answer.request as u64)?;
+    tell(
+        rt,
+        "read of address 0: answer ",
+        number_in(&answer.answer) as u64,
+    )?;
+    tell(rt, ", request ", answer.answer.unwrap_or(0) as u64)?;
     say(rt, "\n")?;
     Ok(answer.machine)
 }

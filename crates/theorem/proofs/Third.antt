@@ -13,7 +13,7 @@ use Rattle.config.proofs.Laws.{accepted}
 use Rattle.device.specs.History.{start_log}
 use Rattle.ages.proofs.Agree.{agrees_fresh}
 use Rattle.queue.specs.Places.{empty_of}
-use Rattle.sequencer.specs.declared.Configured.{Configured}
+use Rattle.sequencer.specs.Answers.{Configured}
 use Rattle.sequencer.specs.Calls.{configured_by, configure_of}
 use Rattle.sequencer.specs.Machine.{blank_of, machine_of}
 use Rattle.model.specs.Sdram.{Cells, start_sdram}

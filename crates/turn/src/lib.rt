@@ -3,6 +3,7 @@
 #![tactic(auto)]
 
 ghost use Rattle.std.specs.Prelude.{◌≡◌, length};
+ghost use Rattle.refusal.specs.Refused.{number_in};
 ghost use Rattle.config.specs.Accepted.{Shaped};
 ghost use Rattle.ages.specs.Ages.{past_of};
 ghost use Rattle.queue.specs.Places.{queue_of};
@@ -16,6 +17,7 @@ use command::Command;
 use config::Config;
 use plan::{Action, Report};
 use refresh::Counters;
+use refusal::Refusal;
 
 // What a slot gives, beside what it changes in place: its command and report, and the machine's other parts after it.
 #[derive(Clone, Copy)]
@@ -114,11 +116,11 @@ fn refused(count: u32, n: Counters, action: Action, must: bool) -> Turned
     }
 }
 
-// One slot where the number is 0; any other number refuses it: a NOP that reports nothing, and nothing changes. Both return to one place in
+// One slot, where the tests refuse none. A refused one is a NOP that reports nothing, and nothing changes. Both return to one place in
 // `Machine::slot`, which builds the machine.
 #[tactic(auto, unfolding(crate::specs::Parts::turned_of, packing::specs::Packing::word_of, packing::specs::Packing::command_word, packing::specs::Packing::report_word))]
 pub fn turn(
-    number: u8,
+    tested: Result<(), Refusal>,
     c: Config,
     ages: &mut [u8; 16],
     opened: &mut [bool; 4],
@@ -131,12 +133,12 @@ pub fn turn(
     must: bool,
     bus: u16,
 ) -> Turned
-    requires shaped { number ≡ 0 → Shaped c.geometry }
+    requires shaped { number_in tested ≡ 0 → Shaped c.geometry }
     requires ages_len { (length ages.old ≡ 16) × (length opened.old ≡ 4) × (length rows.old ≡ 4) }
-    ensures result_after { gathered (past_of ages.new opened.new rows.new programmed.new) places.new result ≡ turned_of number c (past_of ages.old opened.old rows.old programmed.old) n (control_of action must) (queue_of places.old count) bus }
+    ensures result_after { gathered (past_of ages.new opened.new rows.new programmed.new) places.new result ≡ turned_of (number_in tested) c (past_of ages.old opened.old rows.old programmed.old) n (control_of action must) (queue_of places.old count) bus }
     ensures sent_value { (result.sent ≡ command_word result.command) × (result.told ≡ report_word result.report) }
 {
-    if number != 0 {
+    if tested.is_err() {
         return refused(count, n, action, must);
     }
     step(

@@ -1,16 +1,11 @@
--- The number is the definition's.
-use Rattle.sequencer.specs.Calls.{backlog_of}
-use borrow.Author.Tests.{eq-eqb, ne_eqb}
+-- A refused reading has the tests' number, and any other the backlog.
+use Rattle.sequencer.proofs.Laws.{backlog_read, backlog_refused}
 use Rattle.sequencer.proofs.Machine.backlog.Goals as goal
 
-pub returns-then-number-ne0 : goal.returns-then-number-ne0
-unfolding backlog_of
-returns-then-number-ne0 c =
+pub returns-in_err-check_record : goal.returns-in_err-check_record
+returns-in_err-check_record c =
     let m = c.args.self in
-    simp (← c.record_number-number.ensures m.past.ages m.past.rows m.control.must, ne_eqb _ _ c.if-number-ne0.true)
+    backlog_refused m _ (c.in_err-check_record.ensures m.past.ages m.past.rows m.control.must) _ c.from_residual.ensures.0 c.from_residual.ensures.1
 
 pub returns : goal.returns
-unfolding backlog_of
-returns c =
-    let m = c.args.self in
-    simp (← c.record_number-number.ensures m.past.ages m.past.rows m.control.must, eq-eqb _ _ c.if-number-ne0.false)
+returns c = let m = c.args.self in backlog_read m (c.in_ok-check_record.ensures m.past.ages m.past.rows m.control.must)

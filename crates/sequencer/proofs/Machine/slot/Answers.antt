@@ -6,4 +6,4 @@ use Rattle.sequencer.proofs.Machine.slot.Goals as goal
 
 pub turn-turned-requires-clause-shaped : goal.turn-turned-requires-clause-shaped
 turn-turned-requires-clause-shaped c =
-    let m = c.args.self in λ h. (record_facts m (sym (c.record_number-number.ensures m.past.ages m.past.rows m.control.must) ∙ h)).accepted.shaped
+    let m = c.args.self in λ h. (record_facts m (sym (c.check_record-tested.ensures m.past.ages m.past.rows m.control.must) ∙ h)).accepted.shaped

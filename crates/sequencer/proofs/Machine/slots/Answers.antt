@@ -8,4 +8,4 @@ use Rattle.sequencer.proofs.Machine.slots.Goals as goal
 pub run-ended-requires-clause-shaped : goal.run-ended-requires-clause-shaped
 run-ended-requires-clause-shaped c =
     let m = c.args.self in
-    let shows = room_shows _ _ _ _ c.room-count.ensures in λ h. (record_facts m (sym (c.record_number-number.ensures m.past.ages m.past.rows m.control.must) ∙ shows.0 h)).accepted.shaped
+    let shows = room_shows _ _ _ _ c.room-count.ensures in λ h. (record_facts m (sym (c.check_record-tested.ensures m.past.ages m.past.rows m.control.must) ∙ shows.0 h)).accepted.shaped
