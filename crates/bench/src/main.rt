@@ -6,7 +6,8 @@ use bench_stream::{mix, shuffle};
 use command::Command;
 use plan::Report;
 use queue::Kind;
-use sequencer::{Machine, Requested};
+use refusal::number_in;
+use sequencer::{Answered, Machine};
 use std::io;
 
 const SLOTS: u32 = 10000000;
@@ -70,7 +71,7 @@ fn kind_of(x: u32) -> Kind {
 }
 
 // A request of the stream's word x.
-fn asked(machine: Machine, x: u32) -> Requested {
+fn asked(machine: Machine, x: u32) -> Answered<u32> {
     let address = x / 256 % 64 * 2048 + x / 16384 % 1024 * 2;
     machine.request(kind_of(x), address, (x / 65536) as u16)
 }
@@ -79,7 +80,7 @@ fn asked(machine: Machine, x: u32) -> Requested {
 fn mix_reading(digest: u32, machine: Machine) -> u32 {
     if READING {
         let r = machine.backlog();
-        return mix(mix(digest, r.number as u32), r.backlog as u32);
+        return mix(mix(digest, number_in(&r) as u32), r.unwrap_or(0) as u32);
     }
     digest
 }
@@ -95,12 +96,15 @@ fn run() -> Bench {
         if x % LOAD == 0 {
             let r = asked(machine, x);
             machine = r.machine;
-            digest = mix(mix(digest, r.number as u32), r.request);
+            digest = mix(
+                mix(digest, number_in(&r.answer) as u32),
+                r.answer.unwrap_or(0),
+            );
         }
         let s = machine.slot((x / 65536) as u16);
         machine = s.machine;
         let after = mix_report(
-            mix_command(mix(digest, s.number as u32), s.command),
+            mix_command(mix(digest, number_in(&s.answer) as u32), s.command),
             s.report,
         );
         digest = mix_reading(after, machine);

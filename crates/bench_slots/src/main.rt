@@ -4,7 +4,8 @@
 
 use bench_stream::{mix, shuffle};
 use queue::Kind;
-use sequencer::{Machine, Requested};
+use refusal::number_in;
+use sequencer::{Answered, Machine};
 use std::io;
 
 const SLOTS: u32 = 10000000;
@@ -42,7 +43,7 @@ fn mix_all(digest: u32, words: &[u64]) -> u32 {
 fn mix_reading(digest: u32, machine: Machine) -> u32 {
     if READING {
         let r = machine.backlog();
-        return mix(mix(digest, r.number as u32), r.backlog as u32);
+        return mix(mix(digest, number_in(&r) as u32), r.unwrap_or(0) as u32);
     }
     digest
 }
@@ -56,7 +57,7 @@ fn kind_of(x: u32) -> Kind {
 }
 
 // A request of the stream's word x.
-fn request(machine: Machine, x: u32) -> Requested {
+fn request(machine: Machine, x: u32) -> Answered<u32> {
     let address = x / 256 % 64 * 2048 + x / 16384 % 1024 * 2;
     machine.request(kind_of(x), address, (x / 65536) as u16)
 }
@@ -70,7 +71,10 @@ fn asked(before: Bench) -> Bench {
         x = shuffle(x);
         let r = request(machine, x);
         machine = r.machine;
-        digest = mix(mix(digest, r.number as u32), r.request);
+        digest = mix(
+            mix(digest, number_in(&r.answer) as u32),
+            r.answer.unwrap_or(0),
+        );
     }
     Bench { machine, x, digest }
 }
@@ -95,8 +99,8 @@ fn called(before: Bench) -> Bench {
     let machine = asked.machine;
     let r = machine.slots(&bus, &mut commands, &mut reports);
     let answered = mix(
-        mix(asked.digest, r.number as u32),
-        (r.count % 4294967296) as u32,
+        mix(asked.digest, number_in(&r.answer) as u32),
+        (r.answer.unwrap_or(0) % 4294967296) as u32,
     );
     let packed = mix_all(mix_all(answered, &commands), &reports);
     let after = r.machine;

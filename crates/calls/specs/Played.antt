@@ -5,24 +5,21 @@ use Rattle.standalone.specs.Standalone.{to_cell_of, to_address_of}
 use Rattle.queue.specs.declared.Kind.{Kind}
 use Rattle.queue.specs.declared.Kind.TheVariants.{Read, Write}
 use Rattle.sequencer.specs.declared.Machine.{Machine}
-use Rattle.sequencer.specs.declared.Configured.{Configured}
-use Rattle.sequencer.specs.declared.Requested.{Requested}
-use Rattle.sequencer.specs.declared.Slot.{Slot}
-use Rattle.sequencer.specs.declared.Reading.{Reading}
+use Rattle.sequencer.specs.Answers.{Reading, Slot, Requested, Configured}
 use Rattle.sequencer.specs.Calls.{configure_of, request_of, slot_of, backlog_of}
-use Rattle.answer.specs.declared.Answer.{Answer}
-use Rattle.answer.specs.declared.Answer.TheVariants as line
+use Rattle.answer.specs.Line as line
+use Rattle.answer.specs.Line.{Line}
 use Rattle.answer.specs.Output.{answer_line}
 use Rattle.calls.specs.declared.Played.{Played}
 
-unfoldable pub played_of : Machine → Answer → Played
+unfoldable pub played_of : Machine → Line → Played
 played_of m a = record { machine = m; text = answer_line a }
 
 unfoldable pub config_played : ℕ → ℕ → ℕ → ℕ → Played
 config_played cfg row ref tim = let r : Configured = configure_of cfg row ref tim in played_of r.machine (line.Config r.number)
 
 -- a request's line names its kind
-abbrev pub request_line : Kind → ℕ → ℕ → Answer
+abbrev pub request_line : Kind → ℕ → ℕ → Line
 request_line Read number request = line.Read number request
 request_line Write number request = line.Write number request
 

@@ -2,6 +2,8 @@
 #![tactic(auto)]
 
 ghost use Rattle.std.specs.Prelude.{◌≤◌, ◌≡◌, length};
+ghost use Rattle.refusal.specs.Refused.{number_in, value_in};
+ghost use Rattle.answer.specs.Line.{Line, line_in};
 ghost use Rattle.calls.specs.Played.{
   played_of,
   config_played,
@@ -17,6 +19,7 @@ use address::Cell;
 use answer::Answer;
 use output::{Out, say};
 use queue::Kind;
+use refusal::Refusal;
 use sequencer::Machine;
 use text::Text;
 
@@ -30,46 +33,45 @@ pub struct Played {
 pub fn configure(cfg: u32, row: u32, refr: u32, tim: u32) -> Played
     ensures { result ≡ config_played cfg row refr tim }
 {
-    let answer = Machine::configure(cfg, row, refr, tim);
-    let text = Answer::Config(answer.number).line();
-    let machine = answer.machine;
+    let configured = Machine::configure(cfg, row, refr, tim);
+    let text = Answer::Config(configured.answer).line();
+    let machine = configured.machine;
     Played { machine, text }
 }
 
-fn request_line(kind: Kind, number: u8, request: u32) -> Answer
-    ensures { result ≡ request_line kind number request }
+fn request_line(kind: Kind, answer: Result<u32, Refusal>) -> Answer
+    ensures { line_in result ≡ request_line kind (number_in answer) (value_in answer) }
 {
     match kind {
-        Kind::Read => Answer::Read(number, request),
-        Kind::Write => Answer::Write(number, request),
+        Kind::Read => Answer::Read(answer),
+        Kind::Write => Answer::Write(answer),
     }
 }
 
 pub fn request(before: Machine, kind: Kind, address: u32, halfword: u16) -> Played
     ensures { result ≡ request_played before kind address halfword }
 {
-    let answer = before.request(kind, address, halfword);
-    let text = request_line(kind, answer.number, answer.request).line();
-    let machine = answer.machine;
+    let requested = before.request(kind, address, halfword);
+    let text = request_line(kind, requested.answer).line();
+    let machine = requested.machine;
     Played { machine, text }
 }
 
 pub fn slot(before: Machine, bus: u16) -> Played
     ensures { result ≡ slot_played before bus }
 {
-    let answer = before.slot(bus);
-    let command = answer.command;
-    let report = answer.report;
-    let text = Answer::Slot(answer.number, command, report).line();
-    let machine = answer.machine;
+    let slot = before.slot(bus);
+    let command = slot.command;
+    let report = slot.report;
+    let text = Answer::Slot(slot.answer, command, report).line();
+    let machine = slot.machine;
     Played { machine, text }
 }
 
 pub fn backlog(machine: Machine) -> Played
     ensures { result ≡ backlog_played machine }
 {
-    let answer = machine.backlog();
-    let text = Answer::Backlog(answer.number, answer.backlog).line();
+    let text = Answer::Backlog(machine.backlog()).line();
     Played { machine, text }
 }
 
@@ -88,7 +90,7 @@ pub fn address_of(machine: Machine, cfg: u32, row: u32, cell: Cell) -> Played
 }
 
 pub fn bus(machine: Machine, halfwords: usize) -> Played
-    ensures { result ≡ played_of machine (Answer.Bus halfwords) }
+    ensures { result ≡ played_of machine (Line.Bus halfwords) }
 {
     let text = Answer::Bus(halfwords).line();
     Played { machine, text }
@@ -96,7 +98,7 @@ pub fn bus(machine: Machine, halfwords: usize) -> Played
 
 // A line that is no call, by its number.
 pub fn wrong(machine: Machine, number: u64) -> Played
-    ensures { result ≡ played_of machine (Answer.Wrong number) }
+    ensures { result ≡ played_of machine (Line.Wrong number) }
 {
     let text = Answer::Wrong(number).line();
     Played { machine, text }
@@ -145,15 +147,15 @@ fn beyond(
 pub fn tell(
     rt: &(impl Print + Eprint),
     out: Out,
-    number: u8,
-    count: usize,
+    answer: Result<usize, Refusal>,
     commands: &[u64],
     reports: &[u64],
     output: &mut [u8],
 ) -> Out
     ensures { result.waiting ≤ length output.old }
 {
-    let first = say(rt, out, Answer::Slots(number, count).line(), output);
+    let first = say(rt, out, Answer::Slots(answer).line(), output);
+    let count = answer.unwrap_or(0);
     let all = unpacked(rt, first, commands, reports, count, output);
     beyond(
         rt,

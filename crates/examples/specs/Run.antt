@@ -11,7 +11,7 @@ use Rattle.plan.specs.Actions.{is_idle, in_service}
 use Rattle.plan.specs.Choice.{current_of}
 use Rattle.plan.specs.Slot.{ticked_of}
 use Rattle.sequencer.specs.declared.Machine.{Machine}
-use Rattle.sequencer.specs.declared.Slot.{Slot}
+use Rattle.sequencer.specs.Answers.{Slot}
 use Rattle.sequencer.specs.Calls.{request_of, slot_of}
 use Rattle.model.specs.World.{Call, request, slot, slots, backlog}
 

@@ -126,12 +126,12 @@ pub fn judge(
     ensures slot_bound { (verdict_in result).slot < 2 ^ 40 }
     ensures from_1 { IfOk result (λ o. IfSome o (λ x. 1 ≤ x.slot)) }
 {
-    let setting = config::configure(cfg, row, refr, tim);
-    if setting.number != 0 {
-        return Err(JudgeError::Configuration(setting.number));
-    }
+    let config = match config::configure(cfg, row, refr, tim) {
+        Ok(config) => config,
+        Err(refusal) => return Err(JudgeError::Configuration(refusal)),
+    };
     if LONGEST < tape.len() {
         return Err(JudgeError::TooLong);
     }
-    judged(setting.config, tape)
+    judged(config, tape)
 }

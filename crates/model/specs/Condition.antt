@@ -17,9 +17,7 @@ use Rattle.refresh.specs.Counting.{expiries_of, tick_of}
 use Rattle.plan.specs.declared.Report.{Report}
 use Rattle.plan.specs.Completion.{Completion, completion_of}
 use Rattle.plan.specs.Actions.{in_service}
-use Rattle.sequencer.specs.declared.Reading.{Reading}
-use Rattle.sequencer.specs.declared.Requested.{Requested}
-use Rattle.sequencer.specs.declared.Slot.{Slot}
+use Rattle.sequencer.specs.Answers.{Reading, Slot, Requested}
 use Rattle.numbers.specs.Numbers.{last_number}
 use Rattle.sequencer.specs.Calls.{configure_of, record_number_of, request_of, backlog_of}
 use Rattle.packing.specs.Packing.{command_word, command_in, report_word, report_in}

@@ -6,8 +6,7 @@ use Rattle.queue.specs.declared.Kind.{Kind}
 use Rattle.plan.specs.declared.Report.{Report}
 use Rattle.plan.specs.Completion.{Completion, completion_of}
 use Rattle.sequencer.specs.declared.Machine.{Machine}
-use Rattle.sequencer.specs.declared.Requested.{Requested}
-use Rattle.sequencer.specs.declared.Slot.{Slot}
+use Rattle.sequencer.specs.Answers.{Slot, Requested}
 use Rattle.sequencer.specs.Calls.{request_of, slot_of}
 use Rattle.sequencer.specs.Batch.{Batch, count_of, many_slots_of}
 use Rattle.model.specs.Sdram.{Cells, Sdram, start_sdram, driven_in, sdram_after}

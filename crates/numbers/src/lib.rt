@@ -1,8 +1,9 @@
-// Owns the numbers that a machine's parts decide: 9, with the soundness behind it, and 8; and for a request 4 to 7 after these. They look at parts of the
-// machine, so that the machine is not copied for them; of the past only at the open flags and at the mode, and the contracts say so.
+// Owns the refusals that a machine's parts decide: Unsound, with the soundness behind it, and Blank; and for a request four more. The tests look at parts of the
+// machine, so that the machine is not copied for them.
 #![tactic(auto)]
 
 ghost use Rattle.std.specs.Prelude.{◌≡◌, Bool};
+ghost use Rattle.refusal.specs.Refused.{number_in};
 ghost use Rattle.config.specs.Accepted.{accepted_of};
 ghost use Rattle.plan.specs.Actions.{control_of};
 ghost use Rattle.numbers.specs.Sound.{state_by};
@@ -12,6 +13,7 @@ use ages::Past;
 use config::Config;
 use plan::Action;
 use refresh::Counters;
+use refusal::Refusal;
 
 // The most requests that are ever accepted.
 const LAST: u32 = 4294967295;
@@ -26,10 +28,10 @@ fn state_sound(config: Config, past: &Past, counters: Counters, action: Action, 
         && action_test::action_sound(config, past, count, action)
 }
 
-// What every call tests first: 9 for an unsound record (docs/SOUNDNESS.md), then 8. The calls test the configuration in their own bodies, where the compiler
+// What every call tests first: is the record sound (docs/SOUNDNESS.md), and configured? The calls test the configuration in their own bodies, where the compiler
 // can leave the test out of a program whose configuration is a constant.
 #[tactic(auto, using(crate::proofs::Laws::number_blank, crate::proofs::Laws::number_parts))]
-pub fn record_number(
+pub fn check_record(
     configured: bool,
     config_accepted: bool,
     config: Config,
@@ -37,39 +39,39 @@ pub fn record_number(
     counters: Counters,
     action: Action,
     count: u32,
-) -> u8
+) -> Result<(), Refusal>
     requires { config_accepted ≡ accepted_of config }
-    ensures { (must : Bool) → result ≡ record_number_by configured config past.now counters (control_of action must) count }
+    ensures { (must : Bool) → number_in result ≡ record_number_by configured config past.now counters (control_of action must) count }
 {
     if !configured {
-        return 8;
+        return Err(Refusal::Blank);
     }
     if !config_accepted {
-        return 9;
+        return Err(Refusal::Unsound);
     }
     if state_sound(config, past, counters, action, count) {
-        return 0;
+        return Ok(());
     }
-    9
+    Err(Refusal::Unsound)
 }
 
-// 6 for a full queue, then 7 where the last number has been given.
+// Is there room in the queue, and then a number, for one request more?
 #[tactic(auto, unfolding(crate::specs::Numbers::room_number_of))]
-fn room_number(count: u32, accepted: u32) -> u8
-    ensures { result ≡ room_number_of count accepted }
+fn check_room(count: u32, accepted: u32) -> Result<(), Refusal>
+    ensures { number_in result ≡ room_number_of count accepted }
 {
     if 8 <= count {
-        return 6;
+        return Err(Refusal::QueueFull);
     }
     if LAST <= accepted {
-        return 7;
+        return Err(Refusal::NumbersUsedUp);
     }
-    0
+    Ok(())
 }
 
-// What a request tests: 9 and 8, then 4 and 5, then 6 and 7.
+// What a request tests: the record, then the address, then the room.
 #[tactic(auto, using(crate::proofs::Laws::record_facts), unfolding(crate::specs::Numbers::request_number_by))]
-pub fn request_number(
+pub fn check_request(
     configured: bool,
     config_accepted: bool,
     config: Config,
@@ -79,11 +81,11 @@ pub fn request_number(
     count: u32,
     accepted: u32,
     address: u32,
-) -> u8
+) -> Result<(), Refusal>
     requires { config_accepted ≡ accepted_of config }
-    ensures { (must : Bool) → result ≡ request_number_by configured config past.now counters (control_of action must) count accepted address }
+    ensures { (must : Bool) → number_in result ≡ request_number_by configured config past.now counters (control_of action must) count accepted address }
 {
-    let first = record_number(
+    check_record(
         configured,
         config_accepted,
         config,
@@ -91,13 +93,7 @@ pub fn request_number(
         counters,
         action,
         count,
-    );
-    if first != 0 {
-        return first;
-    }
-    let second = address::address_number(config.geometry, address);
-    if second != 0 {
-        return second;
-    }
-    room_number(count, accepted)
+    )?;
+    address::check_address(config.geometry, address)?;
+    check_room(count, accepted)
 }

@@ -7,8 +7,7 @@ use lib.Dec.{eqb, ltb}
 use lib.ListN.{length}
 use borrow.Author.Tests.{eq-eqb, eqb-true}
 use Rattle.config.specs.declared.Config.{Config}
-use Rattle.config.specs.declared.Setting.{Setting}
-use Rattle.config.specs.Setting.{setting_of, config_of}
+use Rattle.config.specs.Setting.{Setting, setting_of, config_of}
 use Rattle.config.proofs.Laws.{accepted}
 use Rattle.command.specs.declared.Command.{Command}
 use Rattle.device.specs.History.{Log, start_log, allowed, fed}
@@ -18,7 +17,7 @@ use Rattle.tape.specs.Reading.{end, contents_of}
 use Rattle.tape.specs.Laws.{Fit}
 use Rattle.tape.proofs.Tapes.{tapes}
 use Rattle.sequencer.specs.declared.Machine.{Machine}
-use Rattle.sequencer.specs.declared.Configured.{Configured}
+use Rattle.sequencer.specs.Answers.{Configured}
 use Rattle.sequencer.specs.Machine.{machine_of, blank_of}
 use Rattle.sequencer.specs.Calls.{configured_by, configure_of, record_number_of}
 use Rattle.sequencer.specs.Batch.{series_of, batch_of, many_slots_of, count_of}

@@ -5,7 +5,7 @@ use Rattle.command.specs.declared.Command.{Command}
 use Rattle.device.specs.History.{start_log, allowed}
 use Rattle.tape.specs.Writing.{tape_of}
 use Rattle.sequencer.specs.declared.Machine.{Machine}
-use Rattle.sequencer.specs.declared.Slot.{Slot}
+use Rattle.sequencer.specs.Answers.{Slot}
 use Rattle.sequencer.specs.Calls.{configure_of, request_of, slot_of}
 use Rattle.sequencer.specs.Batch.{Batch, many_slots_of}
 use Rattle.model.specs.Sdram.{Cells, Sdram, start_sdram, takes, sdram_after}

@@ -10,8 +10,9 @@ use calls::Played;
 use output::{Out, say};
 use packing::pack_command;
 use queue::Kind;
+use refusal::Refusal;
 use script::{Call, Line, NUMBERS};
-use sequencer::Machine;
+use sequencer::{Answered, Machine};
 
 // What is written.
 #[derive(Clone, Copy)]
@@ -90,8 +91,9 @@ fn tell_no_call(rt: &impl Eprint, line: u64) {
     tell(rt, " is no call and is passed over\n");
 }
 
-fn tell_refused(rt: &impl Eprint, line: u64, number: u8) {
+fn tell_refused(rt: &impl Eprint, line: u64, refusal: Refusal) {
     tell_line(rt, line);
+    let number = refusal.number();
     let _ = eprint!(rt; ": the configuration is refused with number {number}");
     tell(rt, "; slots are refused until another is accepted\n");
 }
@@ -122,9 +124,10 @@ fn wrong(rt: &(impl Print + Eprint), run: Run, output: &mut [u8]) -> Run {
 }
 
 // A configuration's answer, for a tape: the first that is accepted begins it, and the second ends it.
-fn begin(rt: &impl Eprint, run: Run, number: u8, machine: Machine) -> Run {
-    if number != 0 {
-        tell_refused(rt, run.number, number);
+fn begin(rt: &impl Eprint, run: Run, configured: Answered<()>) -> Run {
+    let machine = configured.machine;
+    if let Err(refusal) = configured.answer {
+        tell_refused(rt, run.number, refusal);
         return Run { machine, ..run };
     }
     if run.begun {
@@ -149,10 +152,7 @@ fn configure(
 ) -> Run {
     match run.mode {
         Mode::Lines => answered(rt, run, calls::configure(cfg, row, refr, tim), output),
-        Mode::Tape => {
-            let answer = Machine::configure(cfg, row, refr, tim);
-            begin(rt, run, answer.number, answer.machine)
-        }
+        Mode::Tape => begin(rt, run, Machine::configure(cfg, row, refr, tim)),
     }
 }
 
@@ -168,15 +168,15 @@ fn taped(rt: &(impl Print + Eprint), run: Run, words: &[u64], output: &mut [u8])
 
 // A slot, for a tape. A refused one is none.
 fn taped_slot(rt: &(impl Print + Eprint), run: Run, carried: u16, output: &mut [u8]) -> Run {
-    let answer = run.machine.slot(carried);
-    if answer.number != 0 {
+    let slot = run.machine.slot(carried);
+    if slot.answer.is_err() {
         return run;
     }
     let after = Run {
-        machine: answer.machine,
+        machine: slot.machine,
         ..run
     };
-    taped(rt, after, &[pack_command(answer.command)], output)
+    taped(rt, after, &[pack_command(slot.command)], output)
 }
 
 fn slot(rt: &(impl Print + Eprint), run: Run, carried: u16, output: &mut [u8]) -> Run {
@@ -220,18 +220,20 @@ fn add(
 fn told(
     rt: &(impl Print + Eprint),
     run: Run,
-    number: u8,
-    count: usize,
+    answer: Result<usize, Refusal>,
     commands: &[u64],
     reports: &[u64],
     output: &mut [u8],
 ) -> Run {
     match run.mode {
         Mode::Lines => Run {
-            out: calls::tell(rt, run.out, number, count, commands, reports, output),
+            out: calls::tell(rt, run.out, answer, commands, reports, output),
             ..run
         },
-        Mode::Tape => taped(rt, run, &commands[..count.min(commands.len())], output),
+        Mode::Tape => {
+            let n = answer.unwrap_or(0).min(commands.len());
+            taped(rt, run, &commands[..n], output)
+        }
     }
 }
 
@@ -244,21 +246,13 @@ fn run_slots(
     reports: &mut [u64],
     output: &mut [u8],
 ) -> Run {
-    let answer = run.machine.slots(bus, commands, reports);
+    let ran = run.machine.slots(bus, commands, reports);
     let after = Run {
-        machine: answer.machine,
+        machine: ran.machine,
         halfwords: 0,
         ..run
     };
-    told(
-        rt,
-        after,
-        answer.number,
-        answer.count,
-        commands,
-        reports,
-        output,
-    )
+    told(rt, after, ran.answer, commands, reports, output)
 }
 
 fn zeros() -> [u64; 4096]

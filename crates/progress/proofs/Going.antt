@@ -18,8 +18,7 @@ use Rattle.numbers.specs.Sound.{sound_by}
 use Rattle.numbers.specs.Numbers.{record_number_by}
 use Rattle.numbers.proofs.Laws.{facts_number, request_record}
 use Rattle.sequencer.specs.declared.Machine.{Machine}
-use Rattle.sequencer.specs.declared.Configured.{Configured}
-use Rattle.sequencer.specs.declared.Requested.{Requested}
+use Rattle.sequencer.specs.Answers.{Requested, Configured}
 use Rattle.sequencer.specs.Machine.{blank_of, machine_of}
 use Rattle.sequencer.specs.Calls.{configured_by, configure_of, record_number_of, request_of, refused_with, slot_of}
 use Rattle.sequencer.specs.Batch.{Batch, series_of, batch_of, many_slots_of}

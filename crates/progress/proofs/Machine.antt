@@ -28,7 +28,7 @@ use Rattle.plan.specs.Choice.{current_of}
 use Rattle.plan.proofs.Sound.{SoundAction}
 use Rattle.numbers.proofs.Laws as numbers
 use Rattle.sequencer.specs.declared.Machine.{Machine}
-use Rattle.sequencer.specs.declared.Requested.{Requested}
+use Rattle.sequencer.specs.Answers.{Requested}
 use Rattle.sequencer.specs.Machine.{step_of}
 use Rattle.sequencer.specs.Calls.{record_number_of, queued_request, enqueued_of, request_of, slot_of}
 use Rattle.sequencer.proofs.Laws.{SoundFacts, request_facts, slot_steps}

@@ -46,9 +46,7 @@ use Rattle.plan.specs.Choice as choice
 use Rattle.plan.specs.Slot.{ticked_of, turn_of}
 use Rattle.packing.specs.Packing.{word_of, command_word, report_word}
 use Rattle.sequencer.specs.declared.Machine.{Machine}
-use Rattle.sequencer.specs.declared.Configured.{Configured}
-use Rattle.sequencer.specs.declared.Requested.{Requested}
-use Rattle.sequencer.specs.declared.Slot.{Slot}
+use Rattle.sequencer.specs.Answers.{Slot, Requested, Configured}
 use Rattle.sequencer.specs.Machine.{blank_of, machine_of, step_of}
 use Rattle.numbers.specs.Sound.{state_by, fit_by, sound_by}
 use Rattle.numbers.specs.Numbers.{record_number_by, last_number, room_number_of, request_number_by}

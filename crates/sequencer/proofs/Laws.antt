@@ -1,18 +1,23 @@
 -- What the number 0 says of a machine and of a request (the laws of `numbers`, on machines), and a slot by what the slot of the parts gives.
-use Prim.Native.Nat.{ℕ}
+use Prim.Native.Nat.{ℕ, ◌≤◌}
+use native.Mathlib.Omega.{arith}
 use mathlib.Core.Path.{◌≡◌, refl, subst}
-use mathlib.Core.Bool.{Bool, true, false, cond}
+use mathlib.Core.Bool.{Bool, true, false, cond, false≢true}
 use lib.Dec.{eqb}
 use borrow.Author.Tests.{eqb-true, eq-eqb}
+use Rattle.std.specs.Prelude.{Result, Ok, Err, IsErr, IsErrAnd}
+use Rattle.refusal.specs.declared.Refusal.{Refusal}
+use Rattle.refusal.specs.Refused.{number_of}
+use Rattle.refusal.proofs.Laws.{least}
 use Rattle.numbers.specs.Sound.{sound_by}
 use Rattle.numbers.proofs.Laws as parts
 use Rattle.turn.specs.Parts.{Parts, stepped_of, kept_of, turned_of}
 use Rattle.sequencer.specs.declared.Machine.{Machine}
-use Rattle.sequencer.specs.declared.Slot.{Slot}
+use Rattle.sequencer.specs.Answers.{Slot, reading_in}
 use Rattle.sequencer.specs.Machine as machine
 use Rattle.sequencer.specs.Machine.{machine_with, step_of}
 use Rattle.sequencer.specs.Sound.{sound_of}
-use Rattle.sequencer.specs.Calls.{record_number_of, request_number_of, refused_with, slot_of}
+use Rattle.sequencer.specs.Calls.{record_number_of, request_number_of, refused_with, slot_of, backlog_of}
 
 abbrev pub SoundFacts : Machine → Type 0
 SoundFacts m = parts.SoundFacts m.config m.past m.counters m.control m.queue.count
@@ -58,3 +63,22 @@ slot_is m bus {number} {t} e f =
 pub slot_steps : (m : Machine) (bus : ℕ) → record_number_of m ≡ 0 → slot_of m bus ≡ step_of m bus
 unfolding slot_of
 slot_steps m bus h = simp (eq-eqb _ _ h)
+
+-- The reading call by what the tests gave.
+
+pub backlog_read : (m : Machine) → 0 ≡ record_number_of m → reading_in (Ok m.counters.backlog) ≡ backlog_of m
+unfolding backlog_of
+backlog_read m h = simp (← h)
+
+pub backlog_refused : (m : Machine) (r : Refusal) → number_of r ≡ record_number_of m → (x : Result ℕ Refusal) → IsErr x → IsErrAnd x (λ e. e ≡ r)
+    → reading_in x ≡ backlog_of m
+unfolding backlog_of
+backlog_refused m r h (Ok _) f g = absurd (false≢true f)
+backlog_refused m r h (Err e) f g = rw g (by_test (eqb (number_of r) 0) refl)
+  where
+    never : number_of r ≡ 0 → 1 ≤ number_of r → ⊥
+    never e f = omega (arith, e, f)
+
+    by_test : (b : Bool) → eqb (number_of r) 0 ≡ b → record { number = number_of r; backlog = 0 } ≡ backlog_of m
+    by_test true e = absurd (never (eqb-true _ _ e) (least r))
+    by_test false e = simp (← h, e)

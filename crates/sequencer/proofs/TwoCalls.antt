@@ -9,7 +9,7 @@ use Rattle.queue.specs.declared.Kind.TheVariants.{Read, Write}
 use Rattle.queue.specs.declared.Request.{Request}
 use Rattle.queue.specs.Places.{request_for}
 use Rattle.sequencer.specs.declared.Machine.{Machine}
-use Rattle.sequencer.specs.declared.Requested.{Requested}
+use Rattle.sequencer.specs.Answers.{Requested}
 use Rattle.sequencer.specs.Calls.{request_number_of, queued_request, enqueued_of, request_of}
 
 abbrev queued_request_before : Machine → Kind → ℕ → ℕ → Request

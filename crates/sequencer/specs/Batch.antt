@@ -3,8 +3,7 @@ use Rattle.std.specs.Prelude.{ℕ, min, cond, List, [], ◌∷◌, ◌++◌, eqb
 use Rattle.packing.specs.Packing.{command_word, report_word}
 use Rattle.sequencer.specs.Calls.{record_number_of, slot_of}
 use Rattle.sequencer.specs.declared.Machine.{Machine}
-use Rattle.sequencer.specs.declared.Slot.{Slot}
-use Rattle.sequencer.specs.declared.Slots.{Slots}
+use Rattle.sequencer.specs.Answers.{Slots, Slot}
 
 -- the machine after slots, and the words of their commands and reports, one slot after the other
 pub record Series : Type 0 where

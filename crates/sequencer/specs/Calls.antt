@@ -1,7 +1,6 @@
 -- The calls: for every input the number, the values and the record after it (document 01, "Numbers given back").
 use Rattle.std.specs.Prelude.{ℕ, ◌+◌, cond, eqb}
-use Rattle.config.specs.declared.Setting.{Setting}
-use Rattle.config.specs.Setting.{setting_of}
+use Rattle.config.specs.Setting.{Setting, setting_of}
 use Rattle.command.specs.declared.Command.TheVariants.{Nop}
 use Rattle.queue.specs.declared.Kind.{Kind}
 use Rattle.queue.specs.declared.Kind.TheVariants.{Read, Write}
@@ -11,10 +10,7 @@ use Rattle.plan.specs.declared.Report.TheVariants.{Nothing}
 use Rattle.numbers.specs.Numbers.{record_number_by, request_number_by}
 use Rattle.sequencer.specs.Machine.{machine_with, blank_of, machine_of, step_of}
 use Rattle.sequencer.specs.declared.Machine.{Machine}
-use Rattle.sequencer.specs.declared.Configured.{Configured}
-use Rattle.sequencer.specs.declared.Requested.{Requested}
-use Rattle.sequencer.specs.declared.Slot.{Slot}
-use Rattle.sequencer.specs.declared.Reading.{Reading}
+use Rattle.sequencer.specs.Answers.{Reading, Slot, Requested, Configured}
 
 -- Configuration: 1, 2 or 3 with the blank machine, or 0 with the machine.
 

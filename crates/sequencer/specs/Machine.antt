@@ -13,7 +13,7 @@ use Rattle.plan.specs.declared.Action.TheVariants.{Idle}
 use Rattle.plan.specs.Actions.{control_of, first_action}
 use Rattle.plan.specs.Slot.{Turn, turn_of}
 use Rattle.sequencer.specs.declared.Machine.{Machine}
-use Rattle.sequencer.specs.declared.Slot.{Slot}
+use Rattle.sequencer.specs.Answers.{Slot}
 
 -- a machine of its parts
 abbrev pub machine_with : Bool → Config → Past → Counters → Control → Queue → ℕ → Machine

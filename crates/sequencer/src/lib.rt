@@ -1,9 +1,12 @@
 // Owns the machine and the calls on it: configuration, the request, the slot, many slots, and the backlog.
 #![tactic(auto)]
 
-ghost use Rattle.std.specs.Prelude.{◌≡◌, ◌≤◌, ◌<◌, min, cond, eqb};
+ghost use Rattle.std.specs.Prelude.{◌≡◌, ◌≤◌, ◌<◌, cond, eqb, IfOk};
+ghost use Rattle.refusal.specs.Refused.{number_in};
+ghost use Rattle.config.specs.Answer.{setting_in};
 ghost use Rattle.numbers.specs.Numbers.{last_number};
 ghost use Rattle.sequencer.specs.Machine.{machine_with, blank_of, machine_of};
+ghost use Rattle.sequencer.specs.Answers.{configured_in, requested_in, slot_in, slots_in, reading_in};
 ghost use Rattle.sequencer.specs.Calls.{
   configured_by,
   configure_of,
@@ -20,10 +23,11 @@ ghost use Rattle.sequencer.specs.Batch.{room_of, gathered, many_slots_of};
 
 use ages::Past;
 use command::Command;
-use config::{Config, Setting};
+use config::Config;
 use plan::{Action, Control, Report};
 use queue::{Kind, Queue, Request};
 use refresh::Counters;
+use refusal::Refusal;
 
 // The whole machine. One that is not configured is blank.
 #[derive(Clone, Copy)]
@@ -38,43 +42,20 @@ pub struct Machine {
     pub accepted: u32,
 }
 
-// A number of document 01's table, and the machine that a configuration gives: the blank one where the number is not 0.
+// A call's answer, and the machine after it: the one before it where a request or many slots are refused, and the blank one where a configuration is.
 #[derive(Clone, Copy)]
-pub struct Configured {
-    pub number: u8,
+pub struct Answered<T> {
     pub machine: Machine,
+    pub answer: Result<T, Refusal>,
 }
 
-// A number of the table, the request's own number (0 where it is refused), and the machine after it.
-#[derive(Clone, Copy)]
-pub struct Requested {
-    pub machine: Machine,
-    pub number: u8,
-    pub request: u32,
-}
-
-// A number of the table, the slot's command and report, and the machine after it.
+// One slot: its command and report, and the machine after it. A refused one carries NOP, and reports nothing.
 #[derive(Clone, Copy)]
 pub struct Slot {
     pub machine: Machine,
-    pub number: u8,
+    pub answer: Result<(), Refusal>,
     pub command: Command,
     pub report: Report,
-}
-
-// A number of the table, how many slots were run, and the machine after them.
-#[derive(Clone, Copy)]
-pub struct Slots {
-    pub machine: Machine,
-    pub number: u8,
-    pub count: usize,
-}
-
-// A number of the table, and the backlog.
-#[derive(Clone, Copy)]
-pub struct Reading {
-    pub number: u8,
-    pub backlog: u8,
 }
 
 // The machine that an accepted configuration gives.
@@ -102,41 +83,38 @@ fn started_with(config: Config) -> Machine
     }
 }
 
-// The machine that a setting gives, the blank one where its number is not 0.
+// The machine that a configuration gives, the blank one where it is refused.
 #[tactic(auto, unfolding(crate::specs::Calls::configured_by))]
-fn configured_by(setting: Setting) -> Configured
-    requires { setting.number ≡ 0 → setting.config.rr ≤ 8191 }
-    ensures { result ≡ configured_by setting }
+fn configured_by(configuration: Result<Config, Refusal>) -> Answered<()>
+    requires { IfOk configuration (λ config. config.rr ≤ 8191) }
+    ensures { configured_in result ≡ configured_by (setting_in configuration) }
 {
-    if setting.number == 0 {
-        let config = setting.config;
-        let machine = started_with(config);
-        return Configured { number: 0, machine };
-    }
-    let machine = Machine::blank();
-    Configured {
-        number: setting.number,
-        machine,
+    match configuration {
+        Ok(config) => {
+            let machine = started_with(config);
+            Answered {
+                machine,
+                answer: Ok(()),
+            }
+        }
+        Err(refusal) => {
+            let machine = Machine::blank();
+            Answered {
+                machine,
+                answer: Err(refusal),
+            }
+        }
     }
 }
 
-fn lesser(a: usize, b: usize) -> usize
-    ensures { result ≡ min a b }
+// How many slots a call runs, by what the tests said and the lengths of its arrays.
+fn room(tested: Result<(), Refusal>, bus: usize, commands: usize, reports: usize) -> usize
+    ensures { result ≡ cond (eqb (number_in tested) 0) (room_of bus commands reports) 0 }
 {
-    if b < a {
-        return b;
+    match tested {
+        Ok(()) => bus.min(commands.min(reports)),
+        Err(_) => 0,
     }
-    a
-}
-
-// How many slots a call runs, by its number and the lengths of its arrays.
-fn room(number: u8, bus: usize, commands: usize, reports: usize) -> usize
-    ensures { result ≡ cond (eqb number 0) (room_of bus commands reports) 0 }
-{
-    if number == 0 {
-        return lesser(bus, lesser(commands, reports));
-    }
-    0
 }
 
 // The halfword that a request keeps.
@@ -152,8 +130,8 @@ fn halfword_for(kind: Kind, given: u16) -> u16
 impl Machine {
     // The machine that four register words give.
     #[tactic(auto, using(config::proofs::Laws::accepted), unfolding(crate::specs::Calls::configure_of))]
-    pub fn configure(cfg: u32, row: u32, refr: u32, tim: u32) -> Configured
-        ensures { result ≡ configure_of cfg row refr tim }
+    pub fn configure(cfg: u32, row: u32, refr: u32, tim: u32) -> Answered<()>
+        ensures { configured_in result ≡ configure_of cfg row refr tim }
     {
         configured_by(config::configure(cfg, row, refr, tim))
     }
@@ -198,45 +176,51 @@ impl Machine {
 
     // The machine with one request more.
     #[tactic(auto, unfolding(crate::specs::Calls::enqueued_of))]
-    fn accept(self, request: Request) -> Requested
-        ensures { result ≡ enqueued_of self request }
+    fn accept(self, request: Request) -> Answered<u32>
+        ensures { requested_in result ≡ enqueued_of self request }
     {
         // A queue of its own, which the compiler can keep apart from the rest of the machine.
         let mut queue = self.queue;
         queue.accept(request);
-        Requested {
+        Answered {
             machine: Machine {
                 queue,
                 accepted: request.number,
                 ..self
             },
-            number: 0,
-            request: request.number,
+            answer: Ok(request.number),
         }
     }
 
-    // A request, with the number that the tests gave.
+    // A request, with what the tests said.
     #[tactic(auto, using(crate::proofs::Laws::request_facts), unfolding(crate::specs::Calls::request_of))]
-    fn answered(self, number: u8, kind: Kind, address: u32, halfword: u16) -> Requested
-        requires { number ≡ request_number_of self address }
-        ensures { result ≡ request_of self kind address halfword }
+    fn answered(
+        self,
+        tested: Result<(), Refusal>,
+        kind: Kind,
+        address: u32,
+        halfword: u16,
+    ) -> Answered<u32>
+        requires { number_in tested ≡ request_number_of self address }
+        ensures { requested_in result ≡ request_of self kind address halfword }
     {
-        if number != 0 {
-            return Requested {
+        match tested {
+            Ok(()) => {
+                let request = self.queued_request(kind, address, halfword);
+                self.accept(request)
+            }
+            Err(refusal) => Answered {
                 machine: self,
-                number,
-                request: 0,
-            };
+                answer: Err(refusal),
+            },
         }
-        let request = self.queued_request(kind, address, halfword);
-        self.accept(request)
     }
 
-    // What every call tests first: 9 for an unsound record (docs/SOUNDNESS.md), then 8 for the blank machine.
-    fn record_number(&self) -> u8
-        ensures { result ≡ record_number_of self.now }
+    // What every call tests first: is the record sound, and configured?
+    fn check(&self) -> Result<(), Refusal>
+        ensures { number_in result ≡ record_number_of self.now }
     {
-        numbers::record_number(
+        numbers::check_record(
             self.configured,
             config::accepted(self.config),
             self.config,
@@ -248,10 +232,10 @@ impl Machine {
     }
 
     // Hands in a request of either kind; a halfword given with a read is ignored.
-    pub fn request(self, kind: Kind, address: u32, halfword: u16) -> Requested
-        ensures { result ≡ request_of self kind address halfword }
+    pub fn request(self, kind: Kind, address: u32, halfword: u16) -> Answered<u32>
+        ensures { requested_in result ≡ request_of self kind address halfword }
     {
-        let number = numbers::request_number(
+        let tested = numbers::check_request(
             self.configured,
             config::accepted(self.config),
             self.config,
@@ -262,22 +246,22 @@ impl Machine {
             self.accepted,
             address,
         );
-        self.answered(number, kind, address, halfword)
+        self.answered(tested, kind, address, halfword)
     }
 
     // One slot; `bus` is the halfword that the bus carries.
     #[tactic(auto, using(crate::proofs::Laws::slot_is, crate::proofs::Sound::record_facts))]
     pub fn slot(self, bus: u16) -> Slot
-        ensures { result ≡ slot_of self bus }
+        ensures { slot_in result ≡ slot_of self bus }
     {
-        let number = self.record_number();
+        let tested = self.check();
         // The parts as locals, and the machine built once, at the end, for a refused slot too: lent as its fields, the whole machine would be copied.
         let mut past = self.past;
         let mut counters = self.counters;
         let mut control = self.control;
         let mut queue = self.queue;
         let turned = turn::turn(
-            number,
+            tested,
             self.config,
             &mut past,
             &mut counters,
@@ -293,7 +277,7 @@ impl Machine {
                 control,
                 ..self
             },
-            number,
+            answer: tested,
             command: turned.command,
             report: turned.report,
         }
@@ -302,11 +286,11 @@ impl Machine {
     // Runs as many slots as the shortest of the three arrays has places; `bus` has the halfword that the bus carries in each. The words of their commands and
     // reports (docs/PACKING.md) are stored from the first place on, and the places beyond the count stay. Refused, no slot is run, and nothing changes.
     #[tactic(auto, using(crate::proofs::Batch::slots_is, crate::proofs::Batch::room_shows, crate::proofs::Sound::record_facts))]
-    pub fn slots(self, bus: &[u16], commands: &mut [u64], reports: &mut [u64]) -> Slots
-        ensures { gathered result commands.new reports.new ≡ many_slots_of self bus.now commands.old reports.old }
+    pub fn slots(self, bus: &[u16], commands: &mut [u64], reports: &mut [u64]) -> Answered<usize>
+        ensures { gathered (slots_in result) commands.new reports.new ≡ many_slots_of self bus.now commands.old reports.old }
     {
-        let number = self.record_number();
-        let count = room(number, bus.len(), commands.len(), reports.len());
+        let tested = self.check();
+        let count = room(tested, bus.len(), commands.len(), reports.len());
         let mut past = self.past;
         let mut counters = self.counters;
         let mut control = self.control;
@@ -322,31 +306,24 @@ impl Machine {
             commands,
             reports,
         );
-        Slots {
-            machine: Machine {
-                queue,
-                past,
-                counters,
-                control,
-                ..self
-            },
-            number,
-            count,
+        let machine = Machine {
+            queue,
+            past,
+            counters,
+            control,
+            ..self
+        };
+        Answered {
+            machine,
+            answer: tested.map(|()| count),
         }
     }
 
     // How many refreshes are owed.
-    #[tactic(auto, unfolding(crate::specs::Calls::backlog_of))]
-    pub fn backlog(self) -> Reading
-        ensures { result ≡ backlog_of self }
+    pub fn backlog(self) -> Result<u8, Refusal>
+        ensures { reading_in result ≡ backlog_of self }
     {
-        let number = self.record_number();
-        if number != 0 {
-            return Reading { number, backlog: 0 };
-        }
-        Reading {
-            number: 0,
-            backlog: self.counters.backlog,
-        }
+        self.check()?;
+        Ok(self.counters.backlog)
     }
 }

@@ -5,6 +5,7 @@
 use command::Command;
 use plan::Report;
 use queue::Kind;
+use refusal::number_in;
 use sequencer::Machine;
 use std::io;
 
@@ -116,7 +117,7 @@ fn configured(rt: &impl Print) -> io::Result<Machine> {
     let answer = Machine::configure(0x4400, 0, 27, 0);
     println!(rt;
         "CFG 0x4400, ROW 0, REF 27, TIM 0: answer {}",
-        answer.number
+        number_in(&answer.answer)
     )?;
     Ok(answer.machine)
 }
@@ -125,7 +126,7 @@ fn after_write(rt: &impl Print, m: Machine) -> io::Result<Machine> {
     let answer = m.request(Kind::Write, 0, HALFWORD);
     println!(rt;
         "write to address 0, halfword {HALFWORD}: answer {}, request {}",
-        answer.number, answer.request
+        number_in(&answer.answer), answer.answer.unwrap_or(0)
     )?;
     Ok(answer.machine)
 }
@@ -134,7 +135,7 @@ fn after_read(rt: &impl Print, m: Machine) -> io::Result<Machine> {
     let answer = m.request(Kind::Read, 0, 0);
     println!(rt;
         "read of address 0: answer {}, request {}",
-        answer.number, answer.request
+        number_in(&answer.answer), answer.answer.unwrap_or(0)
     )?;
     Ok(answer.machine)
 }

@@ -10,7 +10,7 @@ use Rattle.config.specs.declared.Config.{Config}
 use Rattle.config.specs.Accepted.{Accepted}
 use Rattle.packing.specs.Packing.{command_word, command_in, report_word, report_in}
 use Rattle.packing.proofs.Laws.{packed_commands, packed_reports}
-use Rattle.sequencer.specs.declared.Slot.{Slot}
+use Rattle.sequencer.specs.Answers.{Slot}
 use Rattle.sequencer.specs.Calls.{record_number_of}
 use Rattle.sequencer.specs.Batch.{Series, before, series_of, Batch, count_of, batch_of, many_slots_of}
 use Rattle.model.specs.World.{World, slot_in, after_slot, after_slots, bus_along, used_of, handed_of, batch_in, after_batch}

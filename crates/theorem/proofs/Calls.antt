@@ -6,7 +6,7 @@ use lib.Dec.{eqb}
 use borrow.Author.Tests.{eqb-true, eqb-false, eq-eqb}
 use Rattle.queue.specs.declared.Kind.{Kind}
 use Rattle.sequencer.specs.declared.Machine.{Machine}
-use Rattle.sequencer.specs.declared.Requested.{Requested}
+use Rattle.sequencer.specs.Answers.{Requested}
 use Rattle.sequencer.specs.Calls.{record_number_of, request_number_of, queued_request, enqueued_of, request_of, backlog_of}
 
 -- a request is accepted, or the record comes back

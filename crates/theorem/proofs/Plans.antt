@@ -11,7 +11,7 @@ use Rattle.plan.specs.Choice.{Choice, current_of}
 use Rattle.plan.specs.Slot.{ticked_of, turn_of}
 use Rattle.soundness.proofs.Plans.{Served, performed_of, served_of}
 use Rattle.sequencer.specs.declared.Machine.{Machine}
-use Rattle.sequencer.specs.declared.Slot.{Slot}
+use Rattle.sequencer.specs.Answers.{Slot}
 use Rattle.sequencer.specs.Machine.{machine_with, step_of}
 
 unfoldable pub counters_of : Machine → Counters

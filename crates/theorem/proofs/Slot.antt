@@ -41,7 +41,7 @@ use Rattle.plan.specs.Slot.{ticked_of}
 use Rattle.packing.specs.Laws.{FitsCommand}
 use Rattle.soundness.proofs.Plans.{Served, served_of, Sends, performed_sends}
 use Rattle.sequencer.specs.declared.Machine.{Machine}
-use Rattle.sequencer.specs.declared.Slot.{Slot}
+use Rattle.sequencer.specs.Answers.{Slot}
 use Rattle.model.specs.Sdram.{takes, sdram_after}
 use Rattle.model.specs.World.{World, bus_of, slot_in, after_slot}
 use Rattle.model.specs.Condition.{is_refr, first_service, served_by, service_refreshes, expiries, refreshes, Reports, Carried}

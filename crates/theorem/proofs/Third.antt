@@ -8,13 +8,12 @@ use lib.Dec.{eqb}
 use borrow.Author.Tests.{eqb-true, eqb-false}
 use Rattle.config.specs.declared.Config.{Config}
 use Rattle.config.specs.Accepted.{Accepted}
-use Rattle.config.specs.declared.Setting.{Setting}
-use Rattle.config.specs.Setting.{config_of, setting_of}
+use Rattle.config.specs.Setting.{Setting, config_of, setting_of}
 use Rattle.config.proofs.Laws.{accepted}
 use Rattle.device.specs.History.{start_log}
 use Rattle.ages.proofs.Agree.{agrees_fresh}
 use Rattle.queue.specs.Places.{empty_of}
-use Rattle.sequencer.specs.declared.Configured.{Configured}
+use Rattle.sequencer.specs.Answers.{Configured}
 use Rattle.sequencer.specs.Calls.{configured_by, configure_of}
 use Rattle.sequencer.specs.Machine.{blank_of, machine_of}
 use Rattle.model.specs.Sdram.{Cells, start_sdram}

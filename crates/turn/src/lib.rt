@@ -3,6 +3,7 @@
 #![tactic(auto)]
 
 ghost use Rattle.std.specs.Prelude.{◌≡◌, length};
+ghost use Rattle.refusal.specs.Refused.{number_in};
 ghost use Rattle.config.specs.Accepted.{Shaped};
 ghost use Rattle.plan.specs.Actions.{under_way};
 ghost use Rattle.plan.specs.Plan.{queue_after};
@@ -16,6 +17,7 @@ use config::Config;
 use plan::{Action, Control, Report};
 use queue::Queue;
 use refresh::Counters;
+use refusal::Refusal;
 
 // What a slot gives, beside what it changes in place: its command and report, and their words (docs/PACKING.md).
 #[derive(Clone, Copy)]
@@ -101,10 +103,10 @@ fn refused() -> Turned
     }
 }
 
-// One slot where the number is 0; any other number refuses it: a NOP that reports nothing, and nothing changes.
+// One slot, where the tests refuse none. A refused one is a NOP that reports nothing, and nothing changes.
 #[tactic(auto, unfolding(crate::specs::Parts::turned_of, packing::specs::Packing::word_of, packing::specs::Packing::command_word, packing::specs::Packing::report_word))]
 pub fn turn(
-    number: u8,
+    tested: Result<(), Refusal>,
     c: Config,
     past: &mut Past,
     counters: &mut Counters,
@@ -112,11 +114,11 @@ pub fn turn(
     queue: &mut Queue,
     bus: u16,
 ) -> Turned
-    requires { number ≡ 0 → Shaped c.geometry }
-    ensures parts { gathered past.new counters.new control.new queue.new result ≡ turned_of number c past.old counters.old control.old queue.old bus }
+    requires { number_in tested ≡ 0 → Shaped c.geometry }
+    ensures parts { gathered past.new counters.new control.new queue.new result ≡ turned_of (number_in tested) c past.old counters.old control.old queue.old bus }
     ensures words { (result.sent ≡ command_word result.command) × (result.told ≡ report_word result.report) }
 {
-    if number != 0 {
+    if tested.is_err() {
         return refused();
     }
     step(c, past, counters, control, queue, bus)

@@ -3,4 +3,4 @@ use Rattle.calls.proofs.backlog.Goals as goal
 
 pub returns : goal.returns
 unfolding backlog_played played_of
-returns c = simp (← c.backlog-answer.ensures, ← c.line-text.ensures)
+returns c = simp (← c.backlog.ensures, ← c.line-text.ensures)

@@ -3,4 +3,4 @@ use Rattle.calls.proofs.configure.Goals as goal
 
 pub returns : goal.returns
 unfolding config_played played_of
-returns c = simp (← c.configure-answer.ensures, ← c.line-text.ensures)
+returns c = simp (← c.configure-configured.ensures, ← c.line-text.ensures)

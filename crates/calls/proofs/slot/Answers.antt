@@ -3,4 +3,4 @@ use Rattle.calls.proofs.slot.Goals as goal
 
 pub returns : goal.returns
 unfolding slot_played played_of
-returns c = simp (← c.slot-answer.ensures, ← c.line-text.ensures)
+returns c = simp (← c.slot-slot.ensures, ← c.line-text.ensures)

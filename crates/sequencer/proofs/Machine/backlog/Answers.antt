@@ -1,12 +1,9 @@
--- The number is the definition's.
-use Rattle.sequencer.specs.Calls.{backlog_of}
-use borrow.Author.Tests.{eq-eqb, ne_eqb}
+-- A refused reading has the tests' number, and any other the backlog.
+use Rattle.sequencer.proofs.Laws.{backlog_read, backlog_refused}
 use Rattle.sequencer.proofs.Machine.backlog.Goals as goal
 
-pub returns-then-number-ne0 : goal.returns-then-number-ne0
-unfolding backlog_of
-returns-then-number-ne0 c = simp (← c.record_number-number.ensures, ne_eqb _ _ c.if-number-ne0.true)
+pub returns-in_err-check : goal.returns-in_err-check
+returns-in_err-check c = backlog_refused c.args.self _ c.in_err-check.ensures _ c.from_residual.ensures.0 c.from_residual.ensures.1
 
 pub returns : goal.returns
-unfolding backlog_of
-returns c = simp (← c.record_number-number.ensures, eq-eqb _ _ c.if-number-ne0.false)
+returns c = backlog_read c.args.self c.in_ok-check.ensures

@@ -2,4 +2,4 @@
 use Rattle.sequencer.proofs.Machine.request.Goals as goal
 
 pub answered-requires : goal.answered-requires
-answered-requires c = c.request_number-number.ensures _
+answered-requires c = c.check_request-tested.ensures _

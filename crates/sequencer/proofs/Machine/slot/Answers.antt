@@ -1,7 +1,7 @@
--- Number 0 shows a geometry.
+-- A slot that the tests let through has a geometry.
 use Rattle.std.proofs.Common.{sym, ◌∙◌}
 use Rattle.sequencer.proofs.Sound.{record_facts}
 use Rattle.sequencer.proofs.Machine.slot.Goals as goal
 
 pub turn-turned-requires : goal.turn-turned-requires
-turn-turned-requires c = λ h. (record_facts c.args.self (sym c.record_number-number.ensures ∙ h)).accepted.shaped
+turn-turned-requires c = λ h. (record_facts c.args.self (sym c.check-tested.ensures ∙ h)).accepted.shaped

@@ -1,4 +1,4 @@
--- Number 0 shows a geometry.
+-- Slots that the tests let through have a geometry.
 use Rattle.std.proofs.Common.{sym, ◌∙◌}
 use Rattle.sequencer.proofs.Batch.{room_shows}
 use Rattle.sequencer.proofs.Sound.{record_facts}
@@ -6,4 +6,4 @@ use Rattle.sequencer.proofs.Machine.slots.Goals as goal
 
 pub run-requires-clause-shaped : goal.run-requires-clause-shaped
 run-requires-clause-shaped c =
-    let shows = room_shows _ _ _ _ c.room-count.ensures in λ h. (record_facts c.args.self (sym c.record_number-number.ensures ∙ shows.0 h)).accepted.shaped
+    let shows = room_shows _ _ _ _ c.room-count.ensures in λ h. (record_facts c.args.self (sym c.check-tested.ensures ∙ shows.0 h)).accepted.shaped
