@@ -4,7 +4,7 @@
 ghost use Rattle.std.specs.Prelude.{◌+◌, ◌≤◌, length, IfOk};
 
 use answer::Answer;
-use output::{Out, at_most, fail, large_buffer, say};
+use output::{Out, fail, large_buffer, say};
 use std::io;
 use std::io::Read;
 use tape::{Item, Refusal};
@@ -157,7 +157,7 @@ fn moved(part: &mut [u8], from: usize) {
 
 // The part of the tape in the buffer has no whole record any more: its rest begins the next part.
 fn kept(rt: &(impl Print + Eprint), before: Shown, part: &mut [u8], output: &[u8]) -> Shown {
-    let at = at_most(before.at, part.len());
+    let at = before.at.min(part.len());
     moved(part, at);
     let said = before.out;
     let out = output::written(rt, said, output);
@@ -209,7 +209,7 @@ fn turn(
     input: &mut [u8],
     output: &mut [u8],
 ) -> Shown {
-    let held = at_most(before.held, input.len());
+    let held = before.held.min(input.len());
     let got = match fetched(rt, input, held) {
         Ok(got) => got,
         Err(why) => return broken(rt, before, why),
@@ -217,7 +217,7 @@ fn turn(
     if got == 0 {
         return ended(rt, before, &input[..held], output);
     }
-    let n = at_most(held + got, input.len());
+    let n = (held + got).min(input.len());
     part_shown(rt, before, &mut input[..n], output)
 }
 
