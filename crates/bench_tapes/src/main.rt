@@ -5,6 +5,7 @@
 ghost use Rattle.std.specs.Prelude.{◌≡◌, ◌<◌, length};
 
 use address::Bank;
+use bench_stream::{mix, shuffle};
 use command::Command;
 use std::io;
 use tape::Item;
@@ -21,16 +22,6 @@ struct Bench {
     length: usize,
     bytes: u64,
     digest: u32,
-}
-
-fn shuffle(x: u32) -> u32 {
-    let a = x ^ (x << 13);
-    let b = a ^ (a >> 17);
-    b ^ (b << 5)
-}
-
-fn mix(digest: u32, value: u32) -> u32 {
-    shuffle(digest ^ value)
 }
 
 // A command's word: half of all are NOPs, and every kind occurs.

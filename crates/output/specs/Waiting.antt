@@ -1,15 +1,10 @@
 -- The bytes that wait in a buffer, as the contracts of the code say them.
-use Rattle.std.specs.Prelude.{ℕ, ◌+◌, ◌≤◌, true, false, cond, ◌≡◌, ltb}
+use Rattle.std.specs.Prelude.{ℕ, ◌+◌, true, false, cond, ◌≡◌, ltb}
 use Rattle.output.specs.declared.Out.{Out}
 
 -- how many bytes go on waiting in a buffer of `room` places, if `needed` places are wanted behind them: all, or none
 unfoldable pub kept_of : Out → ℕ → ℕ → ℕ
 kept_of out needed room = cond (ltb room (out.waiting + needed)) 0 out.waiting
-
--- A number below a limit stays.
-pub record Limited (n most r : ℕ) : Type 0 where
-  pub below : r ≤ most
-  pub same : n ≤ most → r ≡ n
 
 -- After a failure nothing is written; otherwise nothing waits any more.
 pub record Emptied (out r : Out) : Type 0 where

@@ -2,7 +2,7 @@
 #![tactic(auto)]
 
 ghost use Rattle.std.specs.Prelude.{◌≤◌, ◌≡◌, true, false, length};
-ghost use Rattle.output.specs.Waiting.{Limited, Emptied, Roomy};
+ghost use Rattle.output.specs.Waiting.{Emptied, Roomy};
 
 use std::io;
 use text::Text;
@@ -29,13 +29,6 @@ pub fn large_buffer() -> [u8; 65536]
     ensures { 65536 ≡ length result }
 {
     [0; 65536]
-}
-
-// n, but no more than `most`.
-pub fn at_most(n: usize, most: usize) -> usize
-    ensures { Limited n most result }
-{
-    n.min(most)
 }
 
 // Puts a text behind the bytes that wait, as far as there is room, and answers how many wait then.

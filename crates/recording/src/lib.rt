@@ -4,7 +4,7 @@
 ghost use Rattle.std.specs.Prelude.{◌≤◌, ◌≡◌, false, length};
 ghost use Rattle.recording.specs.Recording.{Lent, Added, Ended};
 
-use output::{Out, at_most, with_room};
+use output::{Out, with_room};
 use tape_writer::{Extended, extend, finish};
 
 #[derive(Clone, Copy)]
@@ -28,7 +28,7 @@ pub fn add(
     ensures { Lent words.now output.old → result.out.failed ≡ false → Added out pending words.now output.old output.new result }
 {
     let ready = with_room(rt, out, ROOM, output);
-    let waiting = at_most(ready.waiting, output.len());
+    let waiting = ready.waiting.min(output.len());
     // Of a row that is refused nothing is added.
     let more = extend(pending, words, &mut output[waiting..]).unwrap_or(Extended {
         length: 0,
@@ -49,7 +49,7 @@ pub fn end(rt: &(impl Print + Eprint), out: Out, pending: u16, output: &mut [u8]
     ensures { 24579 ≤ length output.old → result.failed ≡ false → Ended out pending output.old output.new result }
 {
     let ready = with_room(rt, out, ROOM, output);
-    let waiting = at_most(ready.waiting, output.len());
+    let waiting = ready.waiting.min(output.len());
     let length = finish(pending, &[], &mut output[waiting..]).unwrap_or(0);
     Out {
         waiting: waiting + length,

@@ -4,7 +4,7 @@
 ghost use Rattle.std.specs.Prelude.{◌+◌, ◌≤◌, length, IfOk};
 
 use answer::Answer;
-use output::{Out, at_most, fail, large_buffer, say};
+use output::{Out, fail, large_buffer, say};
 use std::io;
 use std::io::Read;
 use tape::{Item, Refusal};
@@ -127,7 +127,7 @@ fn ended(rt: &(impl Print + Eprint), before: Shown, part: &[u8], output: &mut [u
 
 // The part of the tape in the buffer has no whole record any more: its rest begins the next part.
 fn kept(rt: &(impl Print + Eprint), before: Shown, part: &mut [u8], output: &[u8]) -> Shown {
-    let at = at_most(before.at, part.len());
+    let at = before.at.min(part.len());
     part.copy_within(at.., 0);
     let out = output::written(rt, before.out, output);
     Shown {
@@ -178,7 +178,7 @@ fn turn(
     input: &mut [u8],
     output: &mut [u8],
 ) -> Shown {
-    let held = at_most(before.held, input.len());
+    let held = before.held.min(input.len());
     let got = match fetched(rt, input, held) {
         Ok(got) => got,
         Err(why) => return broken(rt, before, why),
@@ -186,7 +186,7 @@ fn turn(
     if got == 0 {
         return ended(rt, before, &input[..held], output);
     }
-    let n = at_most(held + got, input.len());
+    let n = (held + got).min(input.len());
     part_shown(rt, before, &mut input[..n], output)
 }
 

@@ -1,5 +1,5 @@
 -- What is written fits behind the bytes that wait.
-use Rattle.std.proofs.Common.{◌∙◌, [], length, arith}
+use Rattle.std.proofs.Common.{◌≡◌, ◌∙◌, [], length, arith}
 use Rattle.output.proofs.Laws.{kept_room}
 use Rattle.recording.proofs.Laws.{added_bytes, added_pending, no_longer}
 use Rattle.recording.proofs.add.Goals as goal
@@ -11,11 +11,13 @@ pub returns : goal.returns
 returns g c =
     λ l f.
     let a = c.args in
-    let m = c.at_most-waiting in
+    let m = c.min-waiting in
     let u = c.unwrap_or-more.ensures in
     let e = c.extend.ensures in
     let w = c.with_room-ready.ensures.kept f in
-    let k = m.ensures.same (omega (arith, kept_room a.out 24579 (length a.output.now) l.room, w)) ∙ w in
+    let same : m.result ≡ c.with_room-ready.result.waiting =
+    omega (arith, kept_room a.out 24579 (length a.output.now) l.room, w, m.ensures) in
+    let k = same ∙ w in
     record {
       waiting = added_bytes a.out a.pending m.result a.words.now a.output.now _ _ l k c.extend.result u e;
       pending = added_pending a.out a.pending m.result a.words.now a.output.now c.extend.new.tape [] l k c.extend.result u e;

@@ -1,5 +1,5 @@
 -- What is written fits behind the bytes that wait.
-use Rattle.std.proofs.Common.{◌∙◌, length, arith}
+use Rattle.std.proofs.Common.{◌≡◌, ◌∙◌, length, arith}
 use Rattle.output.proofs.Laws.{kept_room}
 use Rattle.recording.proofs.Laws.{ended_bytes, no_longer_end}
 use Rattle.recording.proofs.end.Goals as goal
@@ -11,7 +11,9 @@ pub returns : goal.returns
 returns g c =
     λ room f.
     let a = c.args in
-    let m = c.at_most-waiting in
+    let m = c.min-waiting in
     let w = c.with_room-ready.ensures.kept f in
-    let k = m.ensures.same (omega (arith, kept_room a.out 24579 (length a.output.now) room, w)) ∙ w in
+    let same : m.result ≡ c.with_room-ready.result.waiting =
+    omega (arith, kept_room a.out 24579 (length a.output.now) room, w, m.ensures) in
+    let k = same ∙ w in
     ended_bytes a.out a.pending m.result a.output.now _ _ room k c.finish.result c.unwrap_or-length.ensures c.finish.ensures
