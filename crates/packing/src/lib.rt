@@ -1,4 +1,5 @@
 // Owns commands and reports as words of 64 bits (docs/PACKING.md): the word of each, what a word unpacks to, and whether it packs anything.
+// Functions and not From and TryFrom: README names them, and unpacking answers for every word.
 #![tactic(auto)]
 
 ghost use Rattle.std.specs.Prelude.{◌≡◌};

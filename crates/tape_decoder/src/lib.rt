@@ -92,7 +92,7 @@ fn run_at(at: usize, before: u16, count: u16) -> Found
     }
 }
 
-// A record of a known kind that the tape holds whole.
+// A record of a known kind that the tape holds whole. A chain of comparisons and not a match, which becomes an indirect jump (docs/PERFORMANCE.md).
 #[tactic(auto, using(crate::proofs::Steps::bank_body, crate::proofs::Steps::low_body, crate::proofs::Steps::rest_at_lem, crate::proofs::Steps::run_here, crate::proofs::Steps::command_here), unfolding(tape::specs::Reading::body_length, tape::specs::Reading::command_of))]
 fn record_at(tape: &[u8], at: usize, before: u16, kind: u8) -> Found
     requires { Whole tape.now at kind }

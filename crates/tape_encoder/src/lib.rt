@@ -1,10 +1,10 @@
 // Owns the records that a slot adds to a tape (document 02, (ii)): how long they are, and their bytes, after NOPs that still wait for their record.
 #![tactic(auto)]
 
-ghost use Rattle.std.specs.Prelude.{◌+◌, ◌≤◌, ◌≡◌, true, length};
-ghost use Rattle.std.proofs.lemmas.List.Edits.{sets};
+ghost use Rattle.std.specs.Prelude.{◌≡◌, true, [], ◌∷◌, length};
 ghost use Rattle.packing.specs.Packing.{command_in, packs_command};
 ghost use Rattle.tape.specs.Writing.{pair_of, run_bytes, command_bytes, slot_piece};
+ghost use Rattle.tape_encoder.specs.Encoder.{Room, Puts};
 
 // The bytes of a run's record.
 #[tactic(auto, unfolding(tape::specs::Writing::run_bytes))]
@@ -63,65 +63,82 @@ pub fn pending_after(pending: u16, word: u64) -> u16
     0
 }
 
-// A number in two bytes, the low one first. Like all that put bytes here, it gives the place after them.
-fn put_pair(tape: &mut [u8], at: usize, n: u16) -> usize
-    requires { at + 2 ≤ length tape.old }
-    ensures { (result ≡ at + 2) × (tape.new ≡ sets tape.old at (pair_of n)) }
-{
-    tape[at..at + 2].copy_from_slice(&n.to_le_bytes());
-    at + 2
+// A tape that is written: the lent bytes, and the place after what has been put there.
+#[derive(Drop)]
+pub struct Encoder<'a> {
+    pub tape: &'a mut [u8],
+    pub at: usize,
 }
 
-#[tactic(auto, using(crate::proofs::Slots::no_run, crate::proofs::Slots::some_run))]
-pub fn put_run(tape: &mut [u8], at: usize, run: u16) -> usize
-    requires { at + length (run_bytes run) ≤ length tape.old }
-    ensures { (result ≡ at + length (run_bytes run)) × (tape.new ≡ sets tape.old at (run_bytes run)) }
-{
-    if run == 0 {
-        return at;
+impl<'a> Encoder<'a> {
+    fn put_byte(&mut self, byte: u8)
+        requires { Room self.old (byte ∷ []) }
+        ensures { Puts self.old self.new (byte ∷ []) }
+    {
+        self.tape[self.at] = byte;
+        self.at += 1;
     }
-    tape[at] = 0;
-    put_pair(tape, at + 1, run)
-}
 
-// The record of a command that is not NOP.
-#[tactic(auto, using(crate::proofs::Slots::some_bytes, crate::proofs::Slots::mode_bytes, crate::proofs::Slots::bare_bytes, crate::proofs::Slots::bank_bytes, crate::proofs::Slots::place_bytes, crate::proofs::Slots::write_bytes, crate::proofs::Slots::four_bytes, crate::proofs::Slots::two_bytes, crate::proofs::Stores::write_stores))]
-fn put_command(tape: &mut [u8], at: usize, word: u64) -> usize
-    requires { (packs_command word ≡ true) × (word ≡ 0 → ⊥) × (at + length (command_bytes (command_in word)) ≤ length tape.old) }
-    ensures { (result ≡ at + length (command_bytes (command_in word))) × (tape.new ≡ sets tape.old at (command_bytes (command_in word))) }
-{
-    let kind = (word % 256) as u8;
-    let low = (word / 65536 % 65536) as u16;
-    tape[at] = kind;
-    if 6 < kind {
-        return put_pair(tape, at + 1, low);
+    // A number in two bytes, the low one first.
+    fn put_pair(&mut self, n: u16)
+        requires { Room self.old (pair_of n) }
+        ensures { Puts self.old self.new (pair_of n) }
+    {
+        self.tape[self.at..self.at + 2].copy_from_slice(&n.to_le_bytes());
+        self.at += 2;
     }
-    if 4 < kind {
-        return at + 1;
-    }
-    tape[at + 1] = (word / 256 % 256) as u8;
-    if 3 < kind {
-        return at + 2;
-    }
-    let next = put_pair(tape, at + 2, low);
-    if kind < 3 {
-        return next;
-    }
-    put_pair(tape, next, (word / 4294967296 % 65536) as u16)
-}
 
-// The records that a slot ends.
-#[tactic(auto, using(crate::proofs::Slots::is_nop_lem, crate::proofs::Slots::no_nop, crate::proofs::Slots::joins, crate::proofs::Slots::begins, crate::proofs::Slots::ends, crate::proofs::Stores::sets_append))]
-pub fn put_slot(tape: &mut [u8], at: usize, pending: u16, word: u64) -> usize
-    requires { (packs_command word ≡ true) × (at + length (slot_piece pending (command_in word)).bytes ≤ length tape.old) }
-    ensures { (result ≡ at + length (slot_piece pending (command_in word)).bytes) × (tape.new ≡ sets tape.old at (slot_piece pending (command_in word)).bytes) }
-{
-    if word == 0 {
-        if pending < 65535 {
-            return at;
+    #[tactic(auto, using(crate::proofs::Slots::no_run, crate::proofs::Slots::some_run))]
+    pub fn put_run(&mut self, run: u16)
+        requires { Room self.old (run_bytes run) }
+        ensures { Puts self.old self.new (run_bytes run) }
+    {
+        if run == 0 {
+            return;
         }
-        return put_run(tape, at, pending);
+        self.put_byte(0);
+        self.put_pair(run)
     }
-    let next = put_run(tape, at, pending);
-    put_command(tape, next, word)
+
+    // The record of a command that is not NOP. A chain of comparisons and not a match, which becomes an indirect jump (docs/PERFORMANCE.md).
+    #[tactic(auto, using(crate::proofs::Slots::mode_bytes, crate::proofs::Slots::bare_bytes, crate::proofs::Slots::bank_bytes, crate::proofs::Slots::place_bytes, crate::proofs::Slots::write_bytes))]
+    fn put_command(&mut self, word: u64)
+        requires { (packs_command word ≡ true) × (word ≡ 0 → ⊥) × Room self.old (command_bytes (command_in word)) }
+        ensures { Puts self.old self.new (command_bytes (command_in word)) }
+    {
+        let kind = (word % 256) as u8;
+        let low = (word / 65536 % 65536) as u16;
+        self.put_byte(kind);
+        if 6 < kind {
+            return self.put_pair(low);
+        }
+        if 4 < kind {
+            return;
+        }
+        self.put_byte((word / 256 % 256) as u8);
+        if 3 < kind {
+            return;
+        }
+        self.put_pair(low);
+        if kind < 3 {
+            return;
+        }
+        self.put_pair((word / 4294967296 % 65536) as u16)
+    }
+
+    // The records that a slot ends, after so many NOPs that wait.
+    #[tactic(auto, using(crate::proofs::Slots::is_nop_lem, crate::proofs::Slots::no_nop, crate::proofs::Slots::joins, crate::proofs::Slots::begins, crate::proofs::Slots::ends))]
+    pub fn put_slot(&mut self, pending: u16, word: u64)
+        requires { (packs_command word ≡ true) × Room self.old (slot_piece pending (command_in word)).bytes }
+        ensures { Puts self.old self.new (slot_piece pending (command_in word)).bytes }
+    {
+        if word == 0 {
+            if pending < 65535 {
+                return;
+            }
+            return self.put_run(pending);
+        }
+        self.put_run(pending);
+        self.put_command(word)
+    }
 }

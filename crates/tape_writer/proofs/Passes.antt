@@ -7,7 +7,7 @@ use native.Mathlib.Omega.{arith}
 use native.Mathlib.Nat.{add_assoc, add-zero, zero-add}
 use lib.ListN.{length, get_or, drop, length-append, drop_of_length-le}
 use lib.Dec.{ltb}
-use lib.Seq.{drop-cons, sets}
+use lib.Seq.{drop-cons}
 use borrow.Author.Tests.{ltb-true, ltb-false}
 use Rattle.device.proofs.Tests.{by_test, if_both, both}
 use Rattle.command.specs.declared.Command.{Command}
@@ -19,7 +19,6 @@ use Rattle.tape_writer.specs.declared.WriteError.{WriteError}
 use Rattle.tape_writer.specs.Writer.{slots_in, all_pack}
 use Rattle.tape_writer.specs.Passes.{measured_of}
 use Rattle.tape_encoder.proofs.Slots.{joins, begins, ends, short_run, no_run, few_bytes}
-use Rattle.tape_encoder.proofs.Stores.{sets_append}
 
 -- a slot adds six bytes at most to the records and the run that waits
 pub slot_grows : (n : ℕ) (k : Command) → length (slot_piece n k).bytes + length (run_bytes (slot_piece n k).pending) ≤ length (run_bytes n) + 6
@@ -55,16 +54,16 @@ module _ (words : List ℕ) (i done n : ℕ) where
   unfolding onward all_pack piece_of
   onward_end h = simp (drop_of_length-le words h, add-zero)
 
--- the second pass: a tape on which the records of the words from a place on are still to be stored
-unfoldable pub stored : List ℕ → ℕ → ℕ → List ℕ → List ℕ
-stored tape at n words = sets tape at (piece_of n (slots_in words)).bytes
-
+-- the second pass
 module _ (words : List ℕ) (i n : ℕ) (h : i < length words) where
-  abbrev now_slot : Piece
+  abbrev pub now_slot : Piece
   now_slot = slot_piece n (command_in (get_or words i 0))
 
+  abbrev pub later_bytes : List ℕ
+  later_bytes = (piece_of now_slot.pending (slots_in (drop (suc i) words))).bytes
+
   -- the records from here on are this slot's and those after it
-  pub bytes_next : (piece_of n (slots_in (drop i words))).bytes ≡ now_slot.bytes ++ (piece_of now_slot.pending (slots_in (drop (suc i) words))).bytes
+  pub bytes_next : (piece_of n (slots_in (drop i words))).bytes ≡ now_slot.bytes ++ later_bytes
   unfolding piece_of
   bytes_next = simp (drop-cons words i 0 h)
 
@@ -72,14 +71,14 @@ module _ (words : List ℕ) (i n : ℕ) (h : i < length words) where
   unfolding all_pack
   packs_next p = both _ _ (rw (drop-cons words i 0 h) at p)
 
-  pub stored_next : (tape : List ℕ) (at : ℕ)
-      → stored (sets tape at now_slot.bytes) (at + length now_slot.bytes) now_slot.pending (drop (suc i) words) ≡ stored tape at n (drop i words)
-  unfolding stored
-  stored_next tape at = rw (bytes_next, sets_append)
+-- at the end no record is left
+pub bytes_end : (words : List ℕ) (i n : ℕ) → length words ≤ i → (piece_of n (slots_in (drop i words))).bytes ≡ []
+unfolding piece_of
+bytes_end words i n h = rw (drop_of_length-le words h)
 
 -- what the first pass tells
 module _ (n : ℕ) (words : List ℕ) where
-  abbrev of_row : Piece
+  abbrev pub of_row : Piece
   of_row = piece_of n (slots_in words)
 
   abbrev Measures : Result Extended WriteError → Type 0

@@ -1,9 +1,9 @@
 // Owns the writer of tapes (document 02, (ii)): a whole tape from a row of words, and a tape that is written in pieces.
 #![tactic(auto)]
 
-ghost use Rattle.std.specs.Prelude.{◌≤◌, ◌≡◌, true, length};
-ghost use Rattle.std.proofs.lemmas.List.Edits.{sets};
+ghost use Rattle.std.specs.Prelude.{◌≡◌, true};
 ghost use Rattle.tape.specs.Writing.{piece_of};
+ghost use Rattle.tape_encoder.specs.Encoder.{Room, Puts};
 ghost use Rattle.tape_writer.specs.Writer.{
   slots_in,
   all_pack,
@@ -17,7 +17,7 @@ ghost use Rattle.tape_writer.specs.Writer.{
 ghost use Rattle.tape_writer.specs.Passes.{measured_of};
 
 use packing::packs_command;
-use tape_encoder::{pending_after, put_run, put_slot, run_length, slot_length};
+use tape_encoder::{Encoder, pending_after, run_length, slot_length};
 
 // Why nothing is written.
 #[derive(Clone, Copy, Debug, PartialEq, Eq)]
@@ -67,16 +67,14 @@ fn measure(pending: u16, words: &[u64]) -> Result<Extended, WriteError>
     })
 }
 
-// The second pass over a row: its records, from the first place on.
-#[tactic(auto, using(crate::proofs::Passes::stored, crate::proofs::Passes::bytes_next, crate::proofs::Passes::packs_next, crate::proofs::Passes::stored_next), unfolding(crate::proofs::Passes::stored, tape::specs::Writing::piece_of))]
-fn fill(pending: u16, words: &[u64], tape: &mut [u8])
-    requires { (all_pack words.now ≡ true) × (length (piece_of pending (slots_in words.now)).bytes ≤ length tape.old) }
-    ensures { tape.new ≡ sets tape.old 0 (piece_of pending (slots_in words.now)).bytes }
+// The second pass over a row: its records.
+fn fill(encoder: &mut Encoder, pending: u16, words: &[u64])
+    requires { (all_pack words.now ≡ true) × Room encoder.old (piece_of pending (slots_in words.now)).bytes }
+    ensures { Puts encoder.old encoder.new (piece_of pending (slots_in words.now)).bytes }
 {
-    let mut at = 0;
     let mut open = pending;
     for &word in words {
-        at = put_slot(tape, at, open, word);
+        encoder.put_slot(open, word);
         open = pending_after(open, word);
     }
 }
@@ -90,7 +88,8 @@ pub fn extend(pending: u16, words: &[u64], tape: &mut [u8]) -> Result<Extended, 
     if tape.len() < found.length {
         return Err(WriteError::NoRoom);
     }
-    fill(pending, words, tape);
+    let mut encoder = Encoder { tape, at: 0 };
+    fill(&mut encoder, pending, words);
     Ok(found)
 }
 
@@ -104,8 +103,9 @@ pub fn finish(pending: u16, words: &[u64], tape: &mut [u8]) -> Result<usize, Wri
     if tape.len() < length {
         return Err(WriteError::NoRoom);
     }
-    fill(pending, words, tape);
-    put_run(tape, found.length, found.pending);
+    let mut encoder = Encoder { tape, at: 0 };
+    fill(&mut encoder, pending, words);
+    encoder.put_run(found.pending);
     Ok(length)
 }
 

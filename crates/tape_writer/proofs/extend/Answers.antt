@@ -6,4 +6,4 @@ pub fill-requires : goal.fill-requires
 fill-requires c =
     let a = c.args in
     let m = measured_all a.pending a.words.now c.measure.ensures c.in_ok-found.was in
-    (m.0, omega (arith, m.1, c.if-tape-found.false))
+    (m.0, record { fits = omega (arith, m.1, c.if-tape-found.false) })

@@ -1,26 +1,36 @@
--- The invariant: with the records that are left the tape is the one with all records, and these end at its length.
-use mathlib.Core.Path.{◌∙◌}
-use native.Mathlib.Omega.{arith}
+-- The invariant: there is room for the records that are left, and with them the tape is the one with all records.
 use native.Mathlib.Numerals.{add-one}
-use lib.ListN.{length-append}
-use Rattle.tape_writer.proofs.Passes.{bytes_next, packs_next, stored_next}
+use Rattle.tape_encoder.proofs.Stores.{puts_both, puts_none, room_first, room_left}
+use Rattle.tape_writer.proofs.Passes.{now_slot, later_bytes, bytes_next, bytes_end, packs_next}
 use Rattle.tape_writer.proofs.fill.Goals as goal
 
-pub put_slot-at-requires : goal.put_slot-at-requires
-put_slot-at-requires c =
+pub put_slot-requires : goal.put_slot-requires
+put_slot-requires c =
     let l = c.loop-word in
-    let a = c.args in
-    let here = c.loop-word-test.true in
-    ((packs_next a.words.now l.word-index l.open here l.invariant.0).0, omega (arith, l.auto.tape, c.requires.1, simp (bytes_next a.words.now l.word-index l.open here, length-append) at l.invariant.1))
+    let w = c.args.words.now in
+    let here = c.loop-word-test.true in (
+      (packs_next w l.word-index l.open here l.invariant.0).0,
+      room_first (now_slot w l.word-index l.open here).bytes (later_bytes w l.word-index l.open here) (rw (bytes_next w l.word-index l.open here) at l.invariant.1),
+    )
+
+pub pending_after-open-requires : goal.pending_after-open-requires
+pending_after-open-requires c = let l = c.loop-word in (packs_next c.args.words.now l.word-index l.open c.loop-word-test.true l.invariant.0).0
 
 pub loop-word-preserved : goal.loop-word-preserved
 loop-word-preserved c =
     let l = c.loop-word in
-    let a = c.args in
+    let w = c.args.words.now in
     let here = c.loop-word-test.true in
-    let n = c.pending_after-open.ensures in
-    let p = c.put_slot-at.ensures in (
-      rw add-one (packs_next a.words.now l.word-index l.open here l.invariant.0).1,
-      rw (n, p.0, add-one) (omega (arith, simp (bytes_next a.words.now l.word-index l.open here, length-append) at l.invariant.1)),
-      rw (n, p.0, p.1, add-one) (stored_next a.words.now l.word-index l.open here l.tape l.at ∙ l.invariant.2),
+    let slot = (now_slot w l.word-index l.open here).bytes in
+    let later = later_bytes w l.word-index l.open here in
+    let next = bytes_next w l.word-index l.open here in
+    let n = c.pending_after-open.ensures in (
+      rw add-one (packs_next w l.word-index l.open here l.invariant.0).1,
+      rw (n, add-one) (room_left slot later (rw next at l.invariant.1) c.put_slot.ensures),
+      λ after p. l.invariant.2 after (rw next (puts_both slot later c.put_slot.ensures (rw (n, add-one) at p))),
     )
+
+pub returns : goal.returns
+returns c =
+    let l = c.loop-word in
+    l.invariant.2 l.encoder (rw (bytes_end c.args.words.now l.word-index l.open c.loop-word-test.false) (puts_none l.encoder))

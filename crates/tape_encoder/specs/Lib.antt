@@ -1,0 +1,2 @@
+-- What the encoder puts on a tape.
+pub mod Encoder
