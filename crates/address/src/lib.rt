@@ -3,10 +3,12 @@
 #![tactic(auto)]
 
 ghost use Rattle.std.specs.Prelude.{◌≡◌, ◌<◌, ◌≤◌, ◌^◌, ltb};
+ghost use Rattle.refusal.specs.Refused.{checked_in};
 ghost use Rattle.config.specs.Accepted.{Shaped};
 ghost use Rattle.address.specs.Map.{capacity_of, cell_of, address_number_of, block_of};
 
 use config::Geometry;
+use refusal::Refusal;
 
 // A bank's number.
 #[derive(Clone, Copy)]
@@ -53,19 +55,19 @@ fn capacity(g: Geometry) -> u32
     span(g.rows + g.banks + g.columns + 1)
 }
 
-// The number for an address: 4 where it is odd, 5 where it lies beyond the device, else 0.
+// Is this an address that a request can have? Odd is tested before the capacity.
 #[tactic(auto, unfolding(crate::specs::Map::address_number_of))]
-pub fn address_number(g: Geometry, address: u32) -> u8
+pub fn check_address(g: Geometry, address: u32) -> Result<(), Refusal>
     requires { Shaped g }
-    ensures { result ≡ address_number_of g address }
+    ensures { checked_in result ≡ address_number_of g address }
 {
     if address % 2 == 1 {
-        return 4;
+        return Err(Refusal::OddAddress);
     }
     if capacity(g) <= address {
-        return 5;
+        return Err(Refusal::BeyondDevice);
     }
-    0
+    Ok(())
 }
 
 // The cell of an address; of one beyond the device, which no accepted request has, that of its low bits.

@@ -1,2 +1,3 @@
 -- REPLAY.md, "Output".
+pub mod Line
 pub mod Output

@@ -3,32 +3,14 @@ use Rattle.std.specs.Prelude.{ℕ, cond}
 use Rattle.std.proofs.Math.Option.{Option, none, some}
 use Rattle.text.specs.declared.Text.{Text}
 use Rattle.text.specs.Spelling.{letters, empty_of, byte_of, word_of, decimal_of}
-use Rattle.standalone.specs.declared.ToCell.{ToCell}
+use Rattle.standalone.specs.Standalone.{ToCell}
 use Rattle.command.specs.declared.Command.{Command}
 use Rattle.command.specs.declared.Command.TheVariants.{Nop, Act, Wrt, Pre, Deac, Refr, Mrs, Read as Fetch}
 use Rattle.plan.specs.declared.Report.{Report}
 use Rattle.plan.specs.Completion.{Completion, completion_of}
 use Rattle.queue.specs.declared.Kind.{Kind}
 use Rattle.packing.specs.Packing.{command_in, packs_command, report_in, packs_report}
-use Rattle.answer.specs.declared.Answer.{Answer}
-use Rattle.answer.specs.declared.Answer.TheVariants.{
-  Config,
-  Read,
-  Write,
-  Slot,
-  Backlog,
-  Cell,
-  Address,
-  Bus,
-  Slots,
-  Packed,
-  Unknown,
-  Wrong,
-  Record,
-  Run,
-  Ended,
-  Refused,
-}
+use Rattle.answer.specs.Line.{Line, Config, Read, Write, Slot, Backlog, Cell, Address, Bus, Slots, Packed, Unknown, Wrong, Record, Run, Ended, Refused}
 
 unfoldable pub and_word : Text → ℕ → Text
 and_word t w = word_of (byte_of t 32) w
@@ -121,8 +103,8 @@ record_line s c = byte_of (command_of (decimal_of empty_of s) c) 10
 unfoldable pub run_line : ℕ → ℕ → Text
 run_line s n = byte_of (and_one (decimal_of empty_of s) (letters "NOP") n) 10
 
--- the line of an answer
-unfoldable pub answer_line : Answer → Text
+-- the text of a line
+unfoldable pub answer_line : Line → Text
 answer_line (Config n) = number_line (letters "config") n
 answer_line (Read n r) = pair_line (letters "read") n r
 answer_line (Write n r) = pair_line (letters "write") n r

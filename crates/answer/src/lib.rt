@@ -23,12 +23,14 @@ ghost use Rattle.answer.specs.Output.{
   run_line,
   answer_line,
 };
+ghost use Rattle.answer.specs.Line.{line_in};
+ghost use Rattle.standalone.specs.Answers.{cell_in};
 
-use address::Bank;
+use address::{Bank, Cell};
 use command::Command;
 use plan::Report;
+use refusal::Refusal;
 use script::{ADDRESS, BACKLOG, BUS, CELL, CONFIG, READ, SLOT, SLOTS, WRITE};
-use standalone::{ToAddress, ToCell};
 use text::Text;
 
 // The answer to one line of a script, or what is said of one record of a tape. A call's answer has a number of document 01's table first.
@@ -40,8 +42,8 @@ pub enum Answer {
     Write(u8, u32),
     Slot(u8, Command, Report),
     Backlog(u8, u8),
-    Cell(ToCell),
-    Address(ToAddress),
+    Cell(Result<Cell, Refusal>),
+    Address(Result<u32, Refusal>),
     // How many halfwords wait.
     Bus(usize),
     // And how many slots were run.
@@ -230,12 +232,19 @@ fn unknown_line() -> Text
 }
 
 #[tactic(auto, unfolding(crate::specs::Output::cell_line))]
-fn cell_line(answer: ToCell) -> Text
-    ensures { result ≡ cell_line answer }
+fn cell_line(answer: Result<Cell, Refusal>) -> Text
+    ensures { result ≡ cell_line (cell_in answer) }
 {
-    let cell = answer.cell;
-    let bank = and_number(begun(CELL, answer.number as u64), cell.bank.0 as u64);
-    and_number(and_number(bank, cell.row.0 as u64), cell.column.0 as u64).byte(10)
+    match answer {
+        Ok(cell) => {
+            let bank = and_number(begun(CELL, 0), cell.bank.0 as u64);
+            and_number(and_number(bank, cell.row.0 as u64), cell.column.0 as u64).byte(10)
+        }
+        Err(refusal) => {
+            let bank = and_number(begun(CELL, refusal.number() as u64), 0);
+            and_number(and_number(bank, 0), 0).byte(10)
+        }
+    }
 }
 
 // The line of a tape's command, with its slot.
@@ -258,7 +267,7 @@ impl Answer {
     // The line that is written for it.
     #[tactic(auto, unfolding(crate::specs::Output::answer_line))]
     pub fn line(self) -> Text
-        ensures { result ≡ answer_line self }
+        ensures { result ≡ answer_line (line_in self) }
     {
         match self {
             Answer::Config(number) => number_line(CONFIG, number as u64),
@@ -267,7 +276,8 @@ impl Answer {
             Answer::Slot(number, command, report) => slot_line(number, command, report),
             Answer::Backlog(number, backlog) => pair_line(BACKLOG, number, backlog as u64),
             Answer::Cell(answer) => cell_line(answer),
-            Answer::Address(answer) => pair_line(ADDRESS, answer.number, answer.address as u64),
+            Answer::Address(Ok(address)) => pair_line(ADDRESS, 0, address as u64),
+            Answer::Address(Err(refusal)) => pair_line(ADDRESS, refusal.number(), 0),
             Answer::Bus(waiting) => number_line(BUS, waiting as u64),
             Answer::Slots(number, count) => pair_line(SLOTS, number, count as u64),
             Answer::Packed(command, report) => packed_line(command, report),

@@ -4,8 +4,7 @@ use Prim.Native.Nat.{ℕ}
 use mathlib.Core.Path.{◌≡◌, refl}
 use mathlib.Core.List.{List, [], ◌∷◌, map}
 use Rattle.words.specs.Words.{reserved_map, reserved_all}
-use Rattle.config.specs.declared.Setting.{Setting}
-use Rattle.config.specs.Setting.{offered_of, geometry_of, config_of, no_config, checked_of, setting_of, map_number_of}
+use Rattle.config.specs.Setting.{Setting, offered_of, geometry_of, config_of, no_config, checked_of, setting_of, map_number_of}
 
 -- four words, and the number, A and F that they give
 record Row : Type 0 where

@@ -7,11 +7,10 @@ use mathlib.Core.List.{List, [], ◌∷◌}
 use lib.Dec.{eqb, leb, ltb}
 use borrow.Author.Tests.{leb-true, ltb-false, eqb-true, eqb-false, eq-eqb, le-ltb}
 use Rattle.words.specs.Words.{field_of, NM, CL, IBANK, PAGESIZE, ROWSIZE, reserved_map, reserved_all}
-use Rattle.config.specs.Setting.{offered_of, geometry_of, config_of, checked_of, setting_of, map_number_of, refused_of, too_short, access_span, refresh_span}
+use Rattle.config.specs.Setting.{Setting, offered_of, geometry_of, config_of, checked_of, setting_of, map_number_of, refused_of, too_short, access_span, refresh_span}
 use Rattle.config.specs.Accepted.{Shaped, Accepted, outside_of, none_of, shaped_of, distances_of, spanned_of, accepted_of}
 use Rattle.config.specs.declared.Geometry.{Geometry}
 use Rattle.config.specs.declared.Config.{Config}
-use Rattle.config.specs.declared.Setting.{Setting}
 
 -- the ranges of the fields of CFG and ROW that are offered
 record Offered (cfg row : ℕ) : Type 0 where

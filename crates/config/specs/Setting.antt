@@ -3,7 +3,11 @@ use Rattle.std.specs.Prelude.{ℕ, ◌+◌, ◌*◌, max, Bool, cond, ◌&&◌, 
 use Rattle.words.specs.Words.{field_of, NM, CL, IBANK, PAGESIZE, ROWSIZE, RR, T_RFC, T_RP, T_RCD, T_WR, T_RAS, T_RC, T_RRD, reserved_map, reserved_all}
 use Rattle.config.specs.declared.Geometry.{Geometry}
 use Rattle.config.specs.declared.Config.{Config}
-use Rattle.config.specs.declared.Setting.{Setting}
+
+-- a number of document 01's table and, where it is 0, the configuration; all zeros where it is not
+pub record Setting : Type 0 where
+  pub number : ℕ
+  pub config : Config
 
 -- every field of CFG and ROW holds a value that is offered; the other words' fields offer all their values
 unfoldable pub offered_of : ℕ → ℕ → Bool

@@ -1,10 +1,14 @@
-// Owns the configuration: from document 01's four register words to it, or to one of the numbers 1, 2 and 3, and the test of a record.
+// Owns the configuration: from document 01's four register words to it, or to one of three refusals, and the test of a record.
 #![tactic(auto)]
 
-ghost use Rattle.std.specs.Prelude.{◌≡◌, ◌<◌, ◌≤◌, max};
+ghost use Rattle.std.specs.Prelude.{◌≡◌, ◌<◌, ◌≤◌};
 ghost use Rattle.words.specs.Words.{bits, field_of};
-ghost use Rattle.config.specs.Setting.{no_config, offered_of, geometry_of, config_of, too_short, checked_of, refused_of, setting_of, map_number_of, slots, access_span, refresh_span};
+ghost use Rattle.refusal.specs.Refused.{checked_in};
+ghost use Rattle.config.specs.Setting.{no_config, offered_of, geometry_of, config_of, too_short, checked_of, setting_of, map_number_of, slots, access_span, refresh_span};
+ghost use Rattle.config.specs.Answer.{setting_in};
 ghost use Rattle.config.specs.Accepted.{outside_of, shaped_of, distances_of, spanned_of, accepted_of};
+
+use refusal::Refusal;
 
 // The device's shape: how many bits number its columns, banks and rows.
 #[derive(Clone, Copy)]
@@ -31,38 +35,18 @@ pub struct Config {
     pub refresh: u8,
 }
 
-// A number of document 01's table and, where it is 0, the configuration; all zeros where it is not.
-#[derive(Clone, Copy)]
-pub struct Setting {
-    pub number: u8,
-    pub config: Config,
-}
-
 // Does every field of CFG and ROW hold a value that is offered?
 #[tactic(auto, unfolding(crate::specs::Setting::offered_of))]
 fn offered(cfg: u32, row: u32) -> bool
     ensures { result ≡ offered_of cfg row }
 {
-    if words::field(cfg, 14, 1) != 1 {
-        return false;
-    }
     let latency = words::field(cfg, 9, 3);
-    if latency < 2 {
-        return false;
-    }
-    if 3 < latency {
-        return false;
-    }
-    if 2 < words::field(cfg, 4, 3) {
-        return false;
-    }
-    if 3 < words::field(cfg, 0, 3) {
-        return false;
-    }
-    if 4 < words::field(row, 0, 3) {
-        return false;
-    }
-    true
+    words::field(cfg, 14, 1) == 1
+        && 2 <= latency
+        && latency <= 3
+        && words::field(cfg, 4, 3) <= 2
+        && words::field(cfg, 0, 3) <= 3
+        && words::field(row, 0, 3) <= 4
 }
 
 // The geometry that CFG and ROW describe.
@@ -75,15 +59,6 @@ pub fn shape(cfg: u32, row: u32) -> Geometry
         banks: words::field(cfg, 4, 3) as u8,
         rows: 9 + words::field(row, 0, 3) as u8,
     }
-}
-
-fn larger(a: u8, b: u8) -> u8
-    ensures { result ≡ max a b }
-{
-    if a < b {
-        return b;
-    }
-    a
 }
 
 // A distance of TIM in slots: its field and one more.
@@ -104,11 +79,7 @@ fn access_span(m: u8, rp: u8, rc: u8, rrd: u8, rcd: u8, latency: u8) -> u32
 fn refresh_span(m: u8, rp: u8, rc: u8, rfc: u8) -> u32
     ensures { result ≡ refresh_span m rp rc rfc }
 {
-    let closed = m as u32 + rp as u32;
-    if closed < rc as u32 {
-        return rc as u32 + rfc as u32;
-    }
-    closed + rfc as u32
+    (m as u32 + rp as u32).max(rc as u32) + rfc as u32
 }
 
 // The configuration that the words describe, whether or not it is accepted.
@@ -125,7 +96,7 @@ fn described(cfg: u32, row: u32, refr: u32, tim: u32) -> Config
     let ras = slots(tim, 12, 4);
     let rc = slots(tim, 8, 4);
     let rrd = slots(tim, 4, 3);
-    let m = larger(ras, wr);
+    let m = ras.max(wr);
     Config {
         geometry,
         latency,
@@ -142,7 +113,7 @@ fn described(cfg: u32, row: u32, refr: u32, tim: u32) -> Config
     }
 }
 
-// No device: what a refusal and a blank machine hold.
+// No device: what a blank machine holds.
 pub fn none() -> Config
     ensures { result ≡ no_config }
 {
@@ -167,14 +138,6 @@ pub fn none() -> Config
     }
 }
 
-// A refusal with its number.
-fn refused(number: u8) -> Setting
-    ensures { result ≡ refused_of number }
-{
-    let config = none();
-    Setting { number, config }
-}
-
 // Is the interval rr too short for one access and six refreshes?
 fn too_short(rr: u16, access: u8, refresh: u8) -> bool
     ensures { result ≡ too_short rr access refresh }
@@ -182,52 +145,48 @@ fn too_short(rr: u16, access: u8, refresh: u8) -> bool
     (rr as u32) < (access as u32) + 6 * (refresh as u32)
 }
 
-// Number 3 where the interval is too short.
 #[tactic(auto, unfolding(crate::specs::Setting::checked_of))]
-fn checked(config: Config) -> Setting
-    ensures { result ≡ checked_of config }
+fn checked(config: Config) -> Result<Config, Refusal>
+    ensures { setting_in result ≡ checked_of config }
 {
     if too_short(config.rr, config.access, config.refresh) {
-        return refused(3);
+        return Err(Refusal::IntervalTooShort);
     }
-    Setting { number: 0, config }
+    Ok(config)
 }
 
-// The configuration that four register words give, or the number that refuses them.
+// The configuration that four register words give, or what refuses them.
 #[tactic(auto, unfolding(crate::specs::Setting::setting_of))]
-pub fn configure(cfg: u32, row: u32, refr: u32, tim: u32) -> Setting
-    ensures { result ≡ setting_of cfg row refr tim }
+pub fn configure(cfg: u32, row: u32, refr: u32, tim: u32) -> Result<Config, Refusal>
+    ensures { setting_in result ≡ setting_of cfg row refr tim }
 {
     if words::all_reserved(cfg, row, refr, tim) {
-        return refused(1);
+        return Err(Refusal::ReservedBit);
     }
-    if offered(cfg, row) {
-        return checked(described(cfg, row, refr, tim));
+    if !offered(cfg, row) {
+        return Err(Refusal::NotOffered);
     }
-    refused(2)
+    checked(described(cfg, row, refr, tim))
 }
 
-// The number that the standalone map's two words give.
+// Does the standalone map take these two words?
 #[tactic(auto, unfolding(crate::specs::Setting::map_number_of))]
-pub fn map_number(cfg: u32, row: u32) -> u8
-    ensures { result ≡ map_number_of cfg row }
+pub fn check_map(cfg: u32, row: u32) -> Result<(), Refusal>
+    ensures { checked_in result ≡ map_number_of cfg row }
 {
     if words::map_reserved(cfg, row) {
-        return 1;
+        Err(Refusal::ReservedBit)
+    } else if offered(cfg, row) {
+        Ok(())
+    } else {
+        Err(Refusal::NotOffered)
     }
-    if offered(cfg, row) {
-        return 0;
-    }
-    2
 }
 
 fn outside(low: u8, high: u8, n: u8) -> bool
     ensures { result ≡ outside_of low high n }
 {
-    if n < low {
-        return true;
-    }
-    high < n
+    !(low..=high).contains(&n)
 }
 
 // Are the widths ones that are offered?
@@ -235,47 +194,21 @@ fn outside(low: u8, high: u8, n: u8) -> bool
 fn shaped(g: Geometry) -> bool
     ensures { result ≡ shaped_of g }
 {
-    if outside(8, 11, g.columns) {
-        return false;
-    }
-    if outside(0, 2, g.banks) {
-        return false;
-    }
-    if outside(9, 13, g.rows) {
-        return false;
-    }
-    true
+    !outside(8, 11, g.columns) && !outside(0, 2, g.banks) && !outside(9, 13, g.rows)
 }
 
 #[tactic(auto, unfolding(crate::specs::Accepted::distances_of))]
 fn distances(c: Config) -> bool
     ensures { result ≡ distances_of c }
 {
-    if outside(2, 3, c.latency) {
-        return false;
-    }
-    if outside(1, 32, c.rfc) {
-        return false;
-    }
-    if outside(1, 8, c.rp) {
-        return false;
-    }
-    if outside(1, 8, c.rcd) {
-        return false;
-    }
-    if outside(1, 8, c.wr) {
-        return false;
-    }
-    if outside(1, 16, c.ras) {
-        return false;
-    }
-    if outside(1, 16, c.rc) {
-        return false;
-    }
-    if outside(1, 8, c.rrd) {
-        return false;
-    }
-    true
+    !outside(2, 3, c.latency)
+        && !outside(1, 32, c.rfc)
+        && !outside(1, 8, c.rp)
+        && !outside(1, 8, c.rcd)
+        && !outside(1, 8, c.wr)
+        && !outside(1, 16, c.ras)
+        && !outside(1, 16, c.rc)
+        && !outside(1, 8, c.rrd)
 }
 
 // Are the spans those of the distances, and is the interval long enough?
@@ -283,20 +216,11 @@ fn distances(c: Config) -> bool
 fn spanned(c: Config) -> bool
     ensures { result ≡ spanned_of c }
 {
-    let m = larger(c.ras, c.wr);
-    if c.access as u32 != access_span(m, c.rp, c.rc, c.rrd, c.rcd, c.latency) {
-        return false;
-    }
-    if c.refresh as u32 != refresh_span(m, c.rp, c.rc, c.rfc) {
-        return false;
-    }
-    if too_short(c.rr, c.access, c.refresh) {
-        return false;
-    }
-    if 8191 < c.rr {
-        return false;
-    }
-    true
+    let m = c.ras.max(c.wr);
+    c.access as u32 == access_span(m, c.rp, c.rc, c.rrd, c.rcd, c.latency)
+        && c.refresh as u32 == refresh_span(m, c.rp, c.rc, c.rfc)
+        && !too_short(c.rr, c.access, c.refresh)
+        && c.rr <= 8191
 }
 
 // Is this a configuration that the register words can give?
@@ -304,11 +228,5 @@ fn spanned(c: Config) -> bool
 pub fn accepted(c: Config) -> bool
     ensures { result ≡ accepted_of c }
 {
-    if shaped(c.geometry) {
-        if distances(c) {
-            return spanned(c);
-        }
-        return false;
-    }
-    false
+    shaped(c.geometry) && distances(c) && spanned(c)
 }

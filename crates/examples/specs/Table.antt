@@ -2,10 +2,8 @@
 -- answer, and what is said.
 use Rattle.std.specs.Prelude.{ℕ, ◌-◌, false, List, [], ◌∷◌, map, drop, replicate}
 use Rattle.config.specs.declared.Config.{Config}
-use Rattle.config.specs.declared.Setting.{Setting}
-use Rattle.config.specs.Setting.{setting_of}
-use Rattle.standalone.specs.declared.ToCell.{ToCell}
-use Rattle.standalone.specs.Standalone.{to_cell_of}
+use Rattle.config.specs.Setting.{Setting, setting_of}
+use Rattle.standalone.specs.Standalone.{ToCell, to_cell_of}
 use Rattle.command.specs.declared.Command.{Command}
 use Rattle.command.specs.declared.Command.TheVariants.{Act, Read, Wrt, Pre, Deac, Refr, Mrs}
 use Rattle.queue.specs.declared.Kind.{Kind}

@@ -4,8 +4,7 @@ use mathlib.Core.Path.{◌≡◌, refl, sym, ap, ◌∙◌}
 use mathlib.Core.List.{List}
 use native.Mathlib.Omega.{arith}
 use lib.ListN.{length}
-use Rattle.config.specs.declared.Setting.{Setting}
-use Rattle.config.specs.Setting.{setting_of}
+use Rattle.config.specs.Setting.{Setting, setting_of}
 use Rattle.config.specs.Accepted.{Accepted}
 use Rattle.config.proofs.Laws.{accepted}
 use Rattle.device.proofs.Tests.{if_both}

@@ -1,8 +1,7 @@
 -- What the judge says of four register words and a tape (document 02, (v)).
 use Rattle.std.specs.Prelude.{ℕ, cond, List, [], ◌∷◌, eqb, ltb, length}
 use Rattle.config.specs.declared.Config.{Config}
-use Rattle.config.specs.declared.Setting.{Setting}
-use Rattle.config.specs.Setting.{setting_of}
+use Rattle.config.specs.Setting.{Setting, setting_of}
 use Rattle.command.specs.declared.Command.{Command}
 use Rattle.device.specs.Rules.{requirements}
 use Rattle.device.specs.History.{Log, start_log, by_history, allowed, fed}

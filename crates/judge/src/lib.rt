@@ -14,7 +14,7 @@ ghost use Rattle.judge.specs.Halted.{illegal_by, halted_at, Halts};
 use command::Command;
 use config::Config;
 use stamps::Stamps;
-use tape::{Item, Refusal};
+use tape::Item;
 use tape_cursor::Cursor;
 use violation::Violation;
 
@@ -29,11 +29,11 @@ pub struct IllegalSlot {
 #[derive(Clone, Copy, Debug, PartialEq, Eq)]
 pub enum JudgeError {
     // 1 to 3: the register words describe no device.
-    Configuration(u8),
+    Configuration(refusal::Refusal),
     // 19: the tape is longer than `LONGEST`.
     TooLong,
     // 11 to 13: a record is refused.
-    Record(Refusal),
+    Record(tape::Refusal),
 }
 
 impl JudgeError {
@@ -42,10 +42,30 @@ impl JudgeError {
         ensures { result ≡ number_of self }
     {
         match self {
-            JudgeError::Configuration(number) => number,
+            JudgeError::Configuration(why) => why.number(),
             JudgeError::TooLong => 19,
             JudgeError::Record(why) => why.number(),
         }
+    }
+}
+
+impl From<refusal::Refusal> for JudgeError {
+    ghost use Rattle.judge.specs.declared.JudgeError.{JudgeError};
+
+    ghost from_gives = { λ why e. e ≡ JudgeError.Configuration why };
+
+    fn from(why: refusal::Refusal) -> JudgeError {
+        JudgeError::Configuration(why)
+    }
+}
+
+impl From<tape_scan::Refused> for JudgeError {
+    ghost use Rattle.judge.specs.declared.JudgeError.{JudgeError};
+
+    ghost from_gives = { λ refused e. e ≡ JudgeError.Record refused.why };
+
+    fn from(refused: tape_scan::Refused) -> JudgeError {
+        JudgeError::Record(refused.why)
     }
 }
 
@@ -80,9 +100,7 @@ fn illegal(
     ensures slot_bound { (verdict_in result).slot < 2 ^ 40 }
     ensures from_1 { IfOk result (λ o. IfSome o (λ x. 1 ≤ x.slot)) }
 {
-    if let Err(refused) = tape_scan::scan(tape) {
-        return Err(JudgeError::Record(refused.why));
-    }
+    tape_scan::scan(tape)?;
     match violation::first(c, past, command) {
         Some(violation) => Ok(Some(IllegalSlot {
             slot: past.slot(),
@@ -126,12 +144,9 @@ pub fn judge(
     ensures slot_bound { (verdict_in result).slot < 2 ^ 40 }
     ensures from_1 { IfOk result (λ o. IfSome o (λ x. 1 ≤ x.slot)) }
 {
-    let setting = config::configure(cfg, row, refr, tim);
-    if setting.number != 0 {
-        return Err(JudgeError::Configuration(setting.number));
-    }
+    let config = config::configure(cfg, row, refr, tim)?;
     if LONGEST < tape.len() {
         return Err(JudgeError::TooLong);
     }
-    judged(setting.config, tape)
+    judged(config, tape)
 }

@@ -1,8 +1,9 @@
-// Owns the numbers that a machine's parts decide: 9, with the soundness behind it, and 8; and for a request 4 to 7 after these. They look at parts of the
+// Owns the refusals that a machine's parts decide: Unsound, with the soundness behind it, and Blank; and for a request four more. The tests look at parts of the
 // machine, so that the machine is not copied for them; of the past only at the open flags and at the mode, and the contracts say so.
 #![tactic(auto)]
 
 ghost use Rattle.std.specs.Prelude.{ℕ, ◌≡◌, Bool, List};
+ghost use Rattle.refusal.specs.Refused.{checked_in};
 ghost use Rattle.config.specs.Accepted.{accepted_of};
 ghost use Rattle.ages.specs.Ages.{past_of};
 ghost use Rattle.plan.specs.Actions.{control_of};
@@ -12,6 +13,7 @@ ghost use Rattle.numbers.specs.Numbers.{record_number_by, room_number_of, reques
 use config::Config;
 use plan::Action;
 use refresh::Counters;
+use refusal::Refusal;
 
 // The most requests that are ever accepted.
 const LAST: u32 = 4294967295;
@@ -28,19 +30,15 @@ fn state_sound(
 ) -> bool
     ensures { (ages rows : List ℕ) (must : Bool) → result ≡ state_by config (past_of ages opened.now rows programmed) counters (control_of action must) count }
 {
-    if !counters.sound(config.rr) {
-        return false;
-    }
-    if 8 < count {
-        return false;
-    }
-    action_test::action_sound(config, opened, programmed, count, action)
+    counters.sound(config.rr)
+        && count <= 8
+        && action_test::action_sound(config, opened, programmed, count, action)
 }
 
-// What every call tests first: 9 for an unsound record (docs/SOUNDNESS.md), then 8. The calls test the configuration in their own bodies, where the compiler
+// What every call tests first: is the record sound (docs/SOUNDNESS.md), and configured? The calls test the configuration in their own bodies, where the compiler
 // can leave the test out of a program whose configuration is a constant.
 #[tactic(auto, using(crate::proofs::Laws::number_blank, crate::proofs::Laws::number_parts))]
-pub fn record_number(
+pub fn check_record(
     configured: bool,
     config_accepted: bool,
     config: Config,
@@ -49,39 +47,39 @@ pub fn record_number(
     counters: Counters,
     action: Action,
     count: u32,
-) -> u8
+) -> Result<(), Refusal>
     requires { config_accepted ≡ accepted_of config }
-    ensures { (ages rows : List ℕ) (must : Bool) → result ≡ record_number_by configured config (past_of ages opened.now rows programmed) counters (control_of action must) count }
+    ensures { (ages rows : List ℕ) (must : Bool) → checked_in result ≡ record_number_by configured config (past_of ages opened.now rows programmed) counters (control_of action must) count }
 {
     if !configured {
-        return 8;
+        return Err(Refusal::Blank);
     }
     if !config_accepted {
-        return 9;
+        return Err(Refusal::Unsound);
     }
     if state_sound(config, opened, programmed, counters, action, count) {
-        return 0;
+        return Ok(());
     }
-    9
+    Err(Refusal::Unsound)
 }
 
-// 6 for a full queue, then 7 where the last number has been given.
+// Is there room in the queue, and then a number, for one request more?
 #[tactic(auto, unfolding(crate::specs::Numbers::room_number_of))]
-fn room_number(count: u32, accepted: u32) -> u8
-    ensures { result ≡ room_number_of count accepted }
+fn check_room(count: u32, accepted: u32) -> Result<(), Refusal>
+    ensures { checked_in result ≡ room_number_of count accepted }
 {
     if 8 <= count {
-        return 6;
+        return Err(Refusal::QueueFull);
     }
     if LAST <= accepted {
-        return 7;
+        return Err(Refusal::NumbersUsedUp);
     }
-    0
+    Ok(())
 }
 
-// What a request tests: 9 and 8, then 4 and 5, then 6 and 7.
+// What a request tests: the record, then the address, then the room.
 #[tactic(auto, using(crate::proofs::Laws::record_facts), unfolding(crate::specs::Numbers::request_number_by))]
-pub fn request_number(
+pub fn check_request(
     configured: bool,
     config_accepted: bool,
     config: Config,
@@ -92,11 +90,11 @@ pub fn request_number(
     count: u32,
     accepted: u32,
     address: u32,
-) -> u8
+) -> Result<(), Refusal>
     requires { config_accepted ≡ accepted_of config }
-    ensures { (ages rows : List ℕ) (must : Bool) → result ≡ request_number_by configured config (past_of ages opened.now rows programmed) counters (control_of action must) count accepted address }
+    ensures { (ages rows : List ℕ) (must : Bool) → checked_in result ≡ request_number_by configured config (past_of ages opened.now rows programmed) counters (control_of action must) count accepted address }
 {
-    let first = record_number(
+    check_record(
         configured,
         config_accepted,
         config,
@@ -105,13 +103,7 @@ pub fn request_number(
         counters,
         action,
         count,
-    );
-    if first != 0 {
-        return first;
-    }
-    let second = address::address_number(config.geometry, address);
-    if second != 0 {
-        return second;
-    }
-    room_number(count, accepted)
+    )?;
+    address::check_address(config.geometry, address)?;
+    check_room(count, accepted)
 }

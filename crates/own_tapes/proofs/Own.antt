@@ -7,8 +7,7 @@ use lib.Dec.{eqb, ltb}
 use lib.ListN.{length}
 use borrow.Author.Tests.{eq-eqb, eqb-true}
 use Rattle.config.specs.declared.Config.{Config}
-use Rattle.config.specs.declared.Setting.{Setting}
-use Rattle.config.specs.Setting.{setting_of, config_of}
+use Rattle.config.specs.Setting.{Setting, setting_of, config_of}
 use Rattle.config.proofs.Laws.{accepted}
 use Rattle.command.specs.declared.Command.{Command}
 use Rattle.device.specs.History.{Log, start_log, allowed, fed}

@@ -1,7 +1,6 @@
 -- The calls: for every input the number, the values and the record after it (document 01, "Numbers given back").
 use Rattle.std.specs.Prelude.{ℕ, ◌+◌, cond, eqb}
-use Rattle.config.specs.declared.Setting.{Setting}
-use Rattle.config.specs.Setting.{setting_of}
+use Rattle.config.specs.Setting.{Setting, setting_of}
 use Rattle.command.specs.declared.Command.TheVariants.{Nop}
 use Rattle.queue.specs.declared.Kind.{Kind}
 use Rattle.queue.specs.declared.Kind.TheVariants.{Read, Write}

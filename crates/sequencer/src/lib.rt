@@ -1,7 +1,8 @@
 // Owns the machine and the calls on it: configuration, the request, the slot, many slots, and the backlog.
 #![tactic(auto)]
 
-ghost use Rattle.std.specs.Prelude.{◌≡◌, ◌≤◌, ◌<◌, min, cond, eqb};
+ghost use Rattle.std.specs.Prelude.{◌≡◌, ◌≤◌, ◌<◌, min, cond, eqb, IfOk};
+ghost use Rattle.config.specs.Answer.{setting_in};
 ghost use Rattle.numbers.specs.Numbers.{last_number};
 ghost use Rattle.sequencer.specs.Machine.{machine_with, blank_of, machine_of};
 ghost use Rattle.sequencer.specs.Calls.{
@@ -19,10 +20,11 @@ ghost use Rattle.sequencer.specs.Batch.{room_of, gathered, many_slots_of};
 
 use ages::Past;
 use command::Command;
-use config::{Config, Setting};
+use config::Config;
 use plan::{Action, Control, Report};
 use queue::{Kind, Queue, Request};
 use refresh::Counters;
+use refusal::Refusal;
 
 // The whole machine. One that is not configured is blank.
 #[derive(Clone, Copy)]
@@ -101,21 +103,24 @@ fn started_with(config: Config) -> Machine
     }
 }
 
-// The machine that a setting gives, the blank one where its number is not 0.
+// The machine that a configuration gives, the blank one where it is refused.
 #[tactic(auto, unfolding(crate::specs::Calls::configured_by))]
-fn configured_by(setting: Setting) -> Configured
-    requires { setting.number ≡ 0 → setting.config.rr ≤ 8191 }
-    ensures { result ≡ configured_by setting }
+fn configured_by(configuration: Result<Config, Refusal>) -> Configured
+    requires { IfOk configuration (λ config. config.rr ≤ 8191) }
+    ensures { result ≡ configured_by (setting_in configuration) }
 {
-    if setting.number == 0 {
-        let config = setting.config;
-        let machine = started_with(config);
-        return Configured { number: 0, machine };
-    }
-    let machine = Machine::blank();
-    Configured {
-        number: setting.number,
-        machine,
+    match configuration {
+        Ok(config) => {
+            let machine = started_with(config);
+            Configured { number: 0, machine }
+        }
+        Err(refusal) => {
+            let machine = Machine::blank();
+            Configured {
+                number: refusal.number(),
+                machine,
+            }
+        }
     }
 }
 

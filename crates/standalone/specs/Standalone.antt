@@ -4,8 +4,16 @@ use Rattle.config.specs.declared.Geometry.{Geometry}
 use Rattle.config.specs.Setting.{map_number_of, geometry_of}
 use Rattle.address.specs.Map.{cell_at, cell_of, address_of, holds_of, address_number_of}
 use Rattle.address.specs.declared.Cell.{Cell}
-use Rattle.standalone.specs.declared.ToCell.{ToCell}
-use Rattle.standalone.specs.declared.ToAddress.{ToAddress}
+
+-- The standalone map's answers: a number of document 01's table, and what was asked for where it is 0; zeros where it is not.
+
+pub record ToCell : Type 0 where
+  pub number : ℕ
+  pub cell : Cell
+
+pub record ToAddress : Type 0 where
+  pub number : ℕ
+  pub address : ℕ
 
 -- refused: bank 0, row 0, column 0; or address 0
 abbrev pub no_cell : ℕ → ToCell

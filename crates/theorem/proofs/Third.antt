@@ -8,8 +8,7 @@ use lib.Dec.{eqb}
 use borrow.Author.Tests.{eqb-true, eqb-false}
 use Rattle.config.specs.declared.Config.{Config}
 use Rattle.config.specs.Accepted.{Accepted}
-use Rattle.config.specs.declared.Setting.{Setting}
-use Rattle.config.specs.Setting.{config_of, setting_of}
+use Rattle.config.specs.Setting.{Setting, config_of, setting_of}
 use Rattle.config.proofs.Laws.{accepted}
 use Rattle.device.specs.History.{start_log}
 use Rattle.ages.proofs.Agree.{agrees_fresh}

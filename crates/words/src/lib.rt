@@ -24,55 +24,25 @@ pub fn field(word: u32, low: u32, width: u32) -> u32
 fn cfg_reserved(w: u32) -> bool
     ensures { result ≡ any_set cfg_reserved w }
 {
-    if field(w, 15, 17) != 0 {
-        return true;
-    }
-    if field(w, 12, 2) != 0 {
-        return true;
-    }
-    if field(w, 7, 2) != 0 {
-        return true;
-    }
-    if field(w, 3, 1) != 0 {
-        return true;
-    }
-    false
+    field(w, 15, 17) != 0 || field(w, 12, 2) != 0 || field(w, 7, 2) != 0 || field(w, 3, 1) != 0
 }
 
 fn row_reserved(w: u32) -> bool
     ensures { result ≡ any_set row_reserved w }
 {
-    if field(w, 3, 29) != 0 {
-        return true;
-    }
-    false
+    field(w, 3, 29) != 0
 }
 
 fn ref_reserved(w: u32) -> bool
     ensures { result ≡ any_set ref_reserved w }
 {
-    if field(w, 13, 19) != 0 {
-        return true;
-    }
-    false
+    field(w, 13, 19) != 0
 }
 
 fn tim_reserved(w: u32) -> bool
     ensures { result ≡ any_set tim_reserved w }
 {
-    if field(w, 23, 1) != 0 {
-        return true;
-    }
-    if field(w, 19, 1) != 0 {
-        return true;
-    }
-    if field(w, 7, 1) != 0 {
-        return true;
-    }
-    if field(w, 0, 4) != 0 {
-        return true;
-    }
-    false
+    field(w, 23, 1) != 0 || field(w, 19, 1) != 0 || field(w, 7, 1) != 0 || field(w, 0, 4) != 0
 }
 
 // Number 1 for the words of the standalone map, and for all four.
@@ -80,21 +50,12 @@ fn tim_reserved(w: u32) -> bool
 pub fn map_reserved(cfg: u32, row: u32) -> bool
     ensures { result ≡ reserved_map cfg row }
 {
-    if cfg_reserved(cfg) {
-        return true;
-    }
-    row_reserved(row)
+    cfg_reserved(cfg) || row_reserved(row)
 }
 
 #[tactic(auto, unfolding(crate::specs::Words::reserved_all))]
 pub fn all_reserved(cfg: u32, row: u32, refr: u32, tim: u32) -> bool
     ensures { result ≡ reserved_all cfg row refr tim }
 {
-    if map_reserved(cfg, row) {
-        return true;
-    }
-    if ref_reserved(refr) {
-        return true;
-    }
-    tim_reserved(tim)
+    map_reserved(cfg, row) || ref_reserved(refr) || tim_reserved(tim)
 }

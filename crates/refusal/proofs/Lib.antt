@@ -1,0 +1,2 @@
+-- Laws of the numbers that callers use.
+pub mod Laws

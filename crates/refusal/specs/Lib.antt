@@ -1,0 +1,2 @@
+-- Document 01, "Numbers given back".
+pub mod Refused
