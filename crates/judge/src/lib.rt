@@ -78,7 +78,7 @@ fn follow(c: Config, past: &mut Stamps, tape: &[u8]) -> Cursor
     requires { Accepted c × (length tape.now ≤ longest) × (past.old.last ≡ no_stamps) × (past.old.clock ≡ 32) }
     ensures tape_value { judged_of c (contents_of tape.now) ≡ halted_at c past.new.last past.new.clock (step_of tape.now result.at result.before).answer (contents_of tape.now).last }
     ensures halts { Halts c past.new.last past.new.clock (step_of tape.now result.at result.before).answer }
-    ensures clock_bound { past.new.clock ≤ 32 + 65535 * longest }
+    ensures clock_bound { (31 < past.new.clock) × (past.new.clock ≤ 32 + 65535 * longest) }
 {
     let mut p = Cursor { at: 0, before: 0 };
     while let Some(next) = tape_cursor::take(c, past, tape, p) {
@@ -95,7 +95,7 @@ fn illegal(
     command: Command,
     tape: &[u8],
 ) -> Result<Option<IllegalSlot>, JudgeError>
-    requires { Accepted c × (legal_of c (by_stamps c past.now.last past.now.clock) command ≡ false) × (past.now.clock ≤ 32 + 65535 * longest) }
+    requires { Accepted c × (legal_of c (by_stamps c past.now.last past.now.clock) command ≡ false) × (31 < past.now.clock) × (past.now.clock ≤ 32 + 65535 * longest) }
     ensures value { verdict_in result ≡ illegal_by c past.now.last past.now.clock command (contents_of tape.now).last }
     ensures slot_bound { (verdict_in result).slot < 2 ^ 40 }
     ensures from_1 { IfOk result (λ o. IfSome o (λ x. 1 ≤ x.slot)) }
