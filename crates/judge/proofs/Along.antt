@@ -2,7 +2,7 @@
 -- gives what the whole tape gives.
 use Prim.Native.Nat.{ℕ, zero, suc, ◌+◌, ◌*◌, ◌-◌, ◌^◌, ◌≤◌, ◌<◌}
 use mathlib.Core.Path.{◌≡◌, refl, sym, ap, subst, ◌∙◌}
-use mathlib.Core.Bool.{true, false, cond, true≢false}
+use mathlib.Core.Bool.{true, false}
 use mathlib.Core.List.{List, ◌∷◌, ◌++◌}
 use native.Mathlib.Omega.{arith}
 use lib.ListN.{length, replicate}
@@ -161,6 +161,7 @@ module _ {c : Config} {tape l : List ℕ} {now : ℕ} {p : Cursor} (n : Accepted
   pub record Halted (m : List ℕ) (late : ℕ) : Type 0 where
     pub said : judged_of c (contents_of tape) ≡ halted_at c m late (step_of tape p.at p.before).answer (contents_of tape).last
     pub halts : Halts c m late (step_of tape p.at p.before).answer
+    pub started : 31 < late
     pub bounded : late ≤ 32 + 65535 * length tape
 
   pub record Onward (m : List ℕ) (late : ℕ) (r : Cursor) : Type 0 where
@@ -172,7 +173,13 @@ module _ {c : Config} {tape l : List ℕ} {now : ℕ} {p : Cursor} (n : Accepted
   After (Some r) m late = Onward m late r
 
   halted_here : (x : Answer) → (step_of tape p.at p.before).answer ≡ x → Halts c l now x → Halted l now
-  halted_here x e h = record { said = rw e (halted_is x e h); halts = rw e h; bounded = omega (arith, a.within, a.bounded) }
+  halted_here x e h =
+      record {
+        said = rw e (halted_is x e h);
+        halts = rw e h;
+        started = omega (arith, a.clock, a.agrees.started);
+        bounded = omega (arith, a.within, a.bounded);
+      }
 
   nearer_here : (x : Answer) → (step_of tape p.at p.before).answer ≡ x → goes_on x ≡ true → length tape - (step_of tape p.at p.before).at < length tape - p.at
   nearer_here x e g = let w = steps.progress tape p.at p.before (ap goes_on e ∙ g) in omega arith

@@ -14,7 +14,7 @@ ghost use Rattle.judge.specs.Halted.{illegal_by, halted_at, Halts};
 use command::Command;
 use config::Config;
 use stamps::Stamps;
-use tape::{Item, Refusal};
+use tape::Item;
 use tape_cursor::Cursor;
 use violation::Violation;
 
@@ -29,11 +29,11 @@ pub struct IllegalSlot {
 #[derive(Clone, Copy, Debug, PartialEq, Eq)]
 pub enum JudgeError {
     // 1 to 3: the register words describe no device.
-    Configuration(u8),
+    Configuration(refusal::Refusal),
     // 19: the tape is longer than `LONGEST`.
     TooLong,
     // 11 to 13: a record is refused.
-    Record(Refusal),
+    Record(tape::Refusal),
 }
 
 impl JudgeError {
@@ -42,10 +42,30 @@ impl JudgeError {
         ensures { result ≡ number_of self }
     {
         match self {
-            JudgeError::Configuration(number) => number,
+            JudgeError::Configuration(why) => why.number(),
             JudgeError::TooLong => 19,
             JudgeError::Record(why) => why.number(),
         }
+    }
+}
+
+impl From<refusal::Refusal> for JudgeError {
+    ghost use Rattle.judge.specs.declared.JudgeError.{JudgeError};
+
+    ghost from_gives = { λ why e. e ≡ JudgeError.Configuration why };
+
+    fn from(why: refusal::Refusal) -> JudgeError {
+        JudgeError::Configuration(why)
+    }
+}
+
+impl From<tape_scan::Refused> for JudgeError {
+    ghost use Rattle.judge.specs.declared.JudgeError.{JudgeError};
+
+    ghost from_gives = { λ refused e. e ≡ JudgeError.Record refused.why };
+
+    fn from(refused: tape_scan::Refused) -> JudgeError {
+        JudgeError::Record(refused.why)
     }
 }
 
@@ -58,7 +78,7 @@ fn follow(c: Config, past: &mut Stamps, tape: &[u8]) -> Cursor
     requires { Accepted c × (length tape.now ≤ longest) × (past.old.last ≡ no_stamps) × (past.old.clock ≡ 32) }
     ensures tape_value { judged_of c (contents_of tape.now) ≡ halted_at c past.new.last past.new.clock (step_of tape.now result.at result.before).answer (contents_of tape.now).last }
     ensures halts { Halts c past.new.last past.new.clock (step_of tape.now result.at result.before).answer }
-    ensures clock_bound { past.new.clock ≤ 32 + 65535 * longest }
+    ensures clock_bound { (31 < past.new.clock) × (past.new.clock ≤ 32 + 65535 * longest) }
 {
     let mut p = Cursor { at: 0, before: 0 };
     while let Some(next) = tape_cursor::take(c, past, tape, p) {
@@ -75,14 +95,12 @@ fn illegal(
     command: Command,
     tape: &[u8],
 ) -> Result<Option<IllegalSlot>, JudgeError>
-    requires { Accepted c × (legal_of c (by_stamps c past.now.last past.now.clock) command ≡ false) × (past.now.clock ≤ 32 + 65535 * longest) }
+    requires { Accepted c × (legal_of c (by_stamps c past.now.last past.now.clock) command ≡ false) × (31 < past.now.clock) × (past.now.clock ≤ 32 + 65535 * longest) }
     ensures value { verdict_in result ≡ illegal_by c past.now.last past.now.clock command (contents_of tape.now).last }
     ensures slot_bound { (verdict_in result).slot < 2 ^ 40 }
     ensures from_1 { IfOk result (λ o. IfSome o (λ x. 1 ≤ x.slot)) }
 {
-    if let Err(refused) = tape_scan::scan(tape) {
-        return Err(JudgeError::Record(refused.why));
-    }
+    tape_scan::scan(tape)?;
     match violation::first(c, past, command) {
         Some(violation) => Ok(Some(IllegalSlot {
             slot: past.slot(),
@@ -126,10 +144,7 @@ pub fn judge(
     ensures slot_bound { (verdict_in result).slot < 2 ^ 40 }
     ensures from_1 { IfOk result (λ o. IfSome o (λ x. 1 ≤ x.slot)) }
 {
-    let config = match config::configure(cfg, row, refr, tim) {
-        Ok(config) => config,
-        Err(refusal) => return Err(JudgeError::Configuration(refusal)),
-    };
+    let config = config::configure(cfg, row, refr, tim)?;
     if LONGEST < tape.len() {
         return Err(JudgeError::TooLong);
     }

@@ -12,13 +12,12 @@ use command::Command;
 pub const FIRST: u64 = 32;
 
 // What the clock showed when each command was last sent, 0 before the first, and what it shows now. The places are those of ages: ACT of each bank; its PRE or any DEAC;
-// REFR, MRS, any PRE or DEAC, READ; WRT to each bank. The clock has started, and is far from its end.
+// REFR, MRS, any PRE or DEAC, READ; WRT to each bank. No command is later than now, and the clock is far from its end.
 #[derive(Drop)]
 pub struct Stamps {
     pub last: [u64; 16],
     pub clock: u64,
     pub ghost earlier: { (i : ℕ) → get_or last i 0 < clock },
-    pub ghost started: { 32 ≤ clock },
     pub ghost far: { clock < 2 ^ 63 },
 }
 
@@ -35,6 +34,7 @@ impl Stamps {
 
     // The slot that the clock shows.
     pub fn slot(&self) -> u64
+        requires { 31 < self.now.clock }
         ensures { result ≡ slot_of self.now.clock }
     {
         self.clock - (FIRST - 1)

@@ -32,5 +32,5 @@ returns-clause-halts c =
 pub returns-clause-clock_bound : goal.returns-clause-clock_bound
 returns-clause-clock_bound c =
     let l = c.loop-next in
-    let h = (after l.invariant.0 l.invariant.2 None _ _ c.in_default.ensures.last_after c.in_default.ensures.clock_bound).bounded in
-    omega (arith, l.invariant.1)
+    let h = after l.invariant.0 l.invariant.2 None _ _ c.in_default.ensures.last_after c.in_default.ensures.clock_bound in
+    (h.started, omega (arith, l.invariant.1, h.bounded))
