@@ -78,15 +78,6 @@ impl Past {
     pub fn all_closed(&self) -> bool
         ensures { (rows : List ℕ) → result ≡ all_closed (open_rows self.now.opened rows) }
     {
-        if self.opened[0] {
-            return false;
-        }
-        if self.opened[1] {
-            return false;
-        }
-        if self.opened[2] {
-            return false;
-        }
-        !self.opened[3]
+        self.opened.iter().all(|open| !*open)
     }
 }

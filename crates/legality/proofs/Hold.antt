@@ -35,11 +35,11 @@ module _ (c : Config) (p : Past) where
   -- R12 and R13 for a DEAC, bank by bank
   R12-is : all_hold (R12-open (by_ages c p)) ≡ all_free_of p.ages p.opened 0 c.ras
   unfolding R12-open free_of
-  R12-is = rw (open_here p.opened p.rows 0 (lit< tt), open_here p.opened p.rows 1 (lit< tt), open_here p.opened p.rows 2 (lit< tt), open_here p.opened p.rows 3 (lit< tt), and_true (not (get_or p.opened 3 false) || leb c.ras (get_or p.ages 3 0)))
+  R12-is = rw (open_here p.opened p.rows 0 (lit< tt), open_here p.opened p.rows 1 (lit< tt), open_here p.opened p.rows 2 (lit< tt), open_here p.opened p.rows 3 (lit< tt))
 
   R13-is : all_hold (R13-open (by_ages c p)) ≡ all_free_of p.ages p.opened 12 c.wr
   unfolding R13-open free_of
-  R13-is = rw (open_here p.opened p.rows 0 (lit< tt), open_here p.opened p.rows 1 (lit< tt), open_here p.opened p.rows 2 (lit< tt), open_here p.opened p.rows 3 (lit< tt), and_true (not (get_or p.opened 3 false) || leb c.wr (get_or p.ages 15 0)))
+  R13-is = rw (open_here p.opened p.rows 0 (lit< tt), open_here p.opened p.rows 1 (lit< tt), open_here p.opened p.rows 2 (lit< tt), open_here p.opened p.rows 3 (lit< tt))
 
   pub act_is : (b : Bank) (r : Row) → legal_of c (by_ages c p) (Act b r)
       ≡ (ltb b.0 (2 ^ c.geometry.banks) && (ltb r.0 (2 ^ c.geometry.rows) && (settled_of c p.ages && (p.programmed

@@ -1,5 +1,5 @@
 -- What the tests say, as their contracts put it. Nothing here has to be believed: proofs/Hold.antt shows what it is by the rules.
-use Rattle.std.specs.Prelude.{ℕ, ◌≡◌, ◌+◌, Bool, false, ◌&&◌, ◌||◌, not, List, leb, get_or}
+use Rattle.std.specs.Prelude.{ℕ, ◌≡◌, ◌+◌, Bool, true, false, ◌&&◌, ◌||◌, not, List, leb, get_or}
 use Rattle.config.specs.declared.Config.{Config}
 use Rattle.command.specs.declared.Command.{Command}
 use Rattle.device.specs.Rules.{legal_of}
@@ -20,4 +20,4 @@ free_of ages opened from n b = not (get_or opened b false) || leb n (get_or ages
 -- as all have it
 abbrev pub all_free_of : List ℕ → List Bool → ℕ → ℕ → Bool
 all_free_of ages opened from n =
-    free_of ages opened from n 0 && (free_of ages opened from n 1 && (free_of ages opened from n 2 && free_of ages opened from n 3))
+    free_of ages opened from n 0 && (free_of ages opened from n 1 && (free_of ages opened from n 2 && (free_of ages opened from n 3 && true)))
