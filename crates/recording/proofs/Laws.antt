@@ -1,12 +1,12 @@
 -- The writer's calls on a part of the buffer: what they write fits, and stands behind the bytes that wait there.
-use Prim.Native.Nat.{ℕ, suc, ◌+◌, ◌-◌, ◌*◌, ◌≤◌}
+use Prim.Native.Nat.{ℕ, ◌+◌, ◌-◌, ◌≤◌}
 use mathlib.Core.Path.{◌≡◌, refl, sym, ap, ◌∙◌}
 use mathlib.Core.Bool.{true}
-use mathlib.Core.List.{List, [], ◌∷◌, ◌++◌, append_assoc}
+use mathlib.Core.List.{List, [], ◌++◌, append_assoc}
 use native.Mathlib.Omega.{arith}
 use borrow.Author.Tests.{ltb-false, le-ltb}
-use lib.Dec.{eqb, ltb}
-use lib.ListN.{length, take, drop, length-append, length-drop, length-map}
+use lib.Dec.{ltb}
+use lib.ListN.{length, take, drop, length-drop, length-map}
 use lib.Seq.{length-take-le, take-append_seam, take-append-add}
 use Rattle.std.specs.Prelude.{Result, Ok, Err}
 use Rattle.std.specs.Result.{result_unwrap_or}
@@ -14,52 +14,18 @@ use Rattle.device.proofs.Tests.{if_both}
 use Rattle.output.specs.declared.Out.{Out}
 use Rattle.output.specs.Waiting.{kept_of}
 use Rattle.output.proofs.Laws.{kept_room}
-use Rattle.command.specs.declared.Command.{Command}
-use Rattle.command.specs.declared.Command.TheVariants.{Nop, Act, Read, Wrt, Pre, Deac, Refr, Mrs}
 use Rattle.packing.specs.Packing.{command_in}
-use Rattle.tape.specs.Writing.{run_bytes, command_bytes, is_nop, Piece, slot_piece, piece_of, tape_after}
+use Rattle.tape.specs.Writing.{run_bytes, Piece, piece_of, tape_after}
 use Rattle.tape_writer.specs.declared.Extended.{Extended}
 use Rattle.tape_writer.specs.declared.WriteError.{WriteError}
 use Rattle.tape_writer.specs.Writer.{slots_in, all_pack, Outcome, front_of, written_of, Extending, extended_of, outcome_in, extending_in}
+use Rattle.tape_encoder.proofs.Slots.{short_run}
+use Rattle.tape_writer.proofs.Passes.{piece_short}
 use Rattle.recording.specs.Recording.{kept_in, Lent}
 
--- no record is longer than 6 bytes, and a run's no longer than 3
-run_length : (n : ℕ) → length (run_bytes n) ≤ 3
-unfolding run_bytes
-run_length n = if_both (λ (bytes : List ℕ). length bytes ≤ 3) (eqb n 0) (λ _. omega arith) (λ _. omega arith)
-
-no_run : length (run_bytes 0) ≡ 0
-unfolding run_bytes
-no_run = refl
-
-command_length : (k : Command) → length (command_bytes k) ≤ 6
-unfolding command_bytes run_bytes
-command_length Nop = omega arith
-command_length (Act b r) = omega arith
-command_length (Read b k) = omega arith
-command_length (Wrt b k h) = omega arith
-command_length (Pre b) = omega arith
-command_length Deac = omega arith
-command_length Refr = omega arith
-command_length (Mrs w) = omega arith
-
-abbrev Within : ℕ → Piece → Type 0
-Within n p = length p.bytes + length (run_bytes p.pending) ≤ length (run_bytes n) + 6
-
-slot_length : (n : ℕ) (k : Command) → Within n (slot_piece n k)
-unfolding slot_piece
-slot_length n k =
-    if_both (Within n) (is_nop k)
-    (λ _. if_both (Within n) (ltb n 65535) (λ _. omega (arith, run_length (suc n))) (λ _. omega (arith, run_length 1)))
-    (λ _. simp (length-append, no_run) (omega (arith, command_length k)))
-
-piece_length : (n : ℕ) (ks : List Command) → length (piece_of n ks).bytes ≤ length (run_bytes n) + 6 * length ks
-unfolding piece_of
-piece_length n [] = omega arith
-piece_length n (k ∷ ks) = simp length-append (omega (arith, slot_length n k, piece_length (slot_piece n k).pending ks))
-
+-- the records of a row
 pub piece_room : (n : ℕ) (words : List ℕ) → length words ≤ 4096 → length (piece_of n (slots_in words)).bytes ≤ 24579
-piece_room n words h = omega (arith, piece_length n (slots_in words), run_length n, length-map words command_in)
+piece_room n words h = omega (arith, piece_short n (slots_in words), short_run n, length-map words command_in)
 
 -- what was written is at the front of what was lent
 abbrev front_in : List ℕ → List ℕ → Outcome
@@ -142,7 +108,7 @@ module _
     (e : outcome_in r last ≡ written_of n [] (lent out w before room k)) where
   pub ended_bytes : take (w + m) (take w before ++ (last ++ rest)) ≡ kept_in out before ++ run_bytes n
   ended_bytes =
-      let z = e ∙ finished n (lent out w before room k) (fits out w before room k (run_bytes n) (omega (arith, run_length n))) in
+      let z = e ∙ finished n (lent out w before room k) (fits out w before room k (run_bytes n) (omega (arith, short_run n))) in
       let t = told_end r last in
       rw (u, t.0 ∙ ap (λ (x : Outcome). x.length) z, t.1 ∙ ap (λ (x : Outcome). x.bytes) z) (put out w before room k _ _ rest)
 

@@ -33,34 +33,41 @@ fn command_length(word: u64) -> usize
     }
 }
 
-// The bytes of the records that a slot ends, after so many NOPs that wait. The word 0 is NOP.
-#[tactic(auto, using(crate::proofs::Slots::is_nop_lem, crate::proofs::Slots::no_nop, crate::proofs::Slots::joins, crate::proofs::Slots::begins, crate::proofs::Slots::ends, crate::proofs::Slots::some_run, crate::proofs::Slots::few_bytes, crate::proofs::Slots::short_run))]
-pub fn slot_length(pending: u16, word: u64) -> usize
-    requires { packs_command word ≡ true }
-    ensures { result ≡ length (slot_piece pending (command_in word)).bytes }
-{
-    if word == 0 {
-        if pending < 65535 {
-            return 0;
-        }
-        return 3;
-    }
-    run_length(pending) + command_length(word)
+// The word of a slot: it packs a command. The word 0 is NOP.
+#[derive(Clone, Copy)]
+pub struct Slot {
+    pub word: u64,
+    ghost packs: { packs_command word ≡ true },
 }
 
-// How many NOPs wait after a slot.
-#[tactic(auto, using(crate::proofs::Slots::is_nop_lem, crate::proofs::Slots::no_nop, crate::proofs::Slots::joins, crate::proofs::Slots::begins, crate::proofs::Slots::ends))]
-pub fn pending_after(pending: u16, word: u64) -> u16
-    requires { packs_command word ≡ true }
-    ensures { result ≡ (slot_piece pending (command_in word)).pending }
-{
-    if word == 0 {
-        if pending < 65535 {
-            return pending + 1;
+impl Slot {
+    // The bytes of the records that the slot ends, after so many NOPs that wait.
+    #[tactic(auto, using(crate::proofs::Slots::is_nop_lem, crate::proofs::Slots::no_nop, crate::proofs::Slots::joins, crate::proofs::Slots::begins, crate::proofs::Slots::ends, crate::proofs::Slots::some_run, crate::proofs::Slots::few_bytes, crate::proofs::Slots::short_run))]
+    pub fn length(self, pending: u16) -> usize
+        ensures { result ≡ length (slot_piece pending (command_in self.word)).bytes }
+    {
+        if self.word == 0 {
+            if pending < 65535 {
+                return 0;
+            }
+            return 3;
         }
-        return 1;
+        run_length(pending) + command_length(self.word)
     }
-    0
+
+    // How many NOPs wait after the slot.
+    #[tactic(auto, using(crate::proofs::Slots::is_nop_lem, crate::proofs::Slots::no_nop, crate::proofs::Slots::joins, crate::proofs::Slots::begins, crate::proofs::Slots::ends))]
+    pub fn pending_after(self, pending: u16) -> u16
+        ensures { result ≡ (slot_piece pending (command_in self.word)).pending }
+    {
+        if self.word == 0 {
+            if pending < 65535 {
+                return pending + 1;
+            }
+            return 1;
+        }
+        0
+    }
 }
 
 // A tape that is written: the lent bytes, and the place after what has been put there.
@@ -102,10 +109,11 @@ impl<'a> Encoder<'a> {
 
     // The record of a command that is not NOP. A chain of comparisons and not a match, which becomes an indirect jump (docs/PERFORMANCE.md).
     #[tactic(auto, using(crate::proofs::Slots::mode_bytes, crate::proofs::Slots::bare_bytes, crate::proofs::Slots::bank_bytes, crate::proofs::Slots::place_bytes, crate::proofs::Slots::write_bytes))]
-    fn put_command(&mut self, word: u64)
-        requires { (packs_command word ≡ true) × (word ≡ 0 → ⊥) × Room self.old (command_bytes (command_in word)) }
-        ensures { Puts self.old self.new (command_bytes (command_in word)) }
+    fn put_command(&mut self, slot: Slot)
+        requires { (slot.word ≡ 0 → ⊥) × Room self.old (command_bytes (command_in slot.word)) }
+        ensures { Puts self.old self.new (command_bytes (command_in slot.word)) }
     {
+        let word = slot.word;
         let kind = (word % 256) as u8;
         let low = (word / 65536 % 65536) as u16;
         self.put_byte(kind);
@@ -128,17 +136,17 @@ impl<'a> Encoder<'a> {
 
     // The records that a slot ends, after so many NOPs that wait.
     #[tactic(auto, using(crate::proofs::Slots::is_nop_lem, crate::proofs::Slots::no_nop, crate::proofs::Slots::joins, crate::proofs::Slots::begins, crate::proofs::Slots::ends))]
-    pub fn put_slot(&mut self, pending: u16, word: u64)
-        requires { (packs_command word ≡ true) × Room self.old (slot_piece pending (command_in word)).bytes }
-        ensures { Puts self.old self.new (slot_piece pending (command_in word)).bytes }
+    pub fn put_slot(&mut self, pending: u16, slot: Slot)
+        requires { Room self.old (slot_piece pending (command_in slot.word)).bytes }
+        ensures { Puts self.old self.new (slot_piece pending (command_in slot.word)).bytes }
     {
-        if word == 0 {
+        if slot.word == 0 {
             if pending < 65535 {
                 return;
             }
             return self.put_run(pending);
         }
         self.put_run(pending);
-        self.put_command(word)
+        self.put_command(slot)
     }
 }

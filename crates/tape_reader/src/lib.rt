@@ -17,7 +17,7 @@ pub struct Reader<'a> {
 }
 
 // A reader at the beginning of a tape.
-pub fn new<'a>(tape: &'a [u8]) -> Reader<'a>
+pub fn new(tape: &[u8]) -> Reader<'_>
     ensures { (result.tape ≡ tape.entry) × (result.at ≡ 0) × (result.before ≡ 0) }
 {
     Reader {
@@ -28,7 +28,7 @@ pub fn new<'a>(tape: &'a [u8]) -> Reader<'a>
 }
 
 // The next record.
-pub fn next<'s, 'a>(r: &'s mut Reader<'a>) -> Item
+pub fn next(r: &mut Reader<'_>) -> Item
     ensures { (r.new.tape ≡ r.old.tape) × (step_after result r.new ≡ step_of r.old.tape.now r.old.at r.old.before) }
 {
     let found = read_at(r.tape, r.at, r.before);

@@ -17,7 +17,7 @@ ghost use Rattle.tape_writer.specs.Writer.{
 ghost use Rattle.tape_writer.specs.Passes.{measured_of};
 
 use packing::packs_command;
-use tape_encoder::{Encoder, pending_after, run_length, slot_length};
+use tape_encoder::{Encoder, Slot, run_length};
 
 // Why nothing is written.
 #[derive(Clone, Copy, Debug, PartialEq, Eq)]
@@ -58,8 +58,9 @@ fn measure(pending: u16, words: &[u64]) -> Result<Extended, WriteError>
         if !packs_command(word) {
             return Err(WriteError::NotACommand);
         }
-        length += slot_length(open, word);
-        open = pending_after(open, word);
+        let slot = Slot { word };
+        length += slot.length(open);
+        open = slot.pending_after(open);
     }
     Ok(Extended {
         length,
@@ -74,8 +75,9 @@ fn fill(encoder: &mut Encoder, pending: u16, words: &[u64])
 {
     let mut open = pending;
     for &word in words {
-        encoder.put_slot(open, word);
-        open = pending_after(open, word);
+        let slot = Slot { word };
+        encoder.put_slot(open, slot);
+        open = slot.pending_after(open);
     }
 }
 

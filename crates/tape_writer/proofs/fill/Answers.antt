@@ -4,17 +4,15 @@ use Rattle.tape_encoder.proofs.Stores.{puts_both, puts_none, room_first, room_le
 use Rattle.tape_writer.proofs.Passes.{now_slot, later_bytes, bytes_next, bytes_end, packs_next}
 use Rattle.tape_writer.proofs.fill.Goals as goal
 
+pub invariant_of-slot : goal.invariant_of-slot
+invariant_of-slot c = let l = c.loop-word in record { packs = (packs_next c.args.words.now l.word-index l.open c.loop-word-test.true l.invariant.0).0 }
+
 pub put_slot-requires : goal.put_slot-requires
 put_slot-requires c =
     let l = c.loop-word in
     let w = c.args.words.now in
-    let here = c.loop-word-test.true in (
-      (packs_next w l.word-index l.open here l.invariant.0).0,
-      room_first (now_slot w l.word-index l.open here).bytes (later_bytes w l.word-index l.open here) (rw (bytes_next w l.word-index l.open here) at l.invariant.1),
-    )
-
-pub pending_after-open-requires : goal.pending_after-open-requires
-pending_after-open-requires c = let l = c.loop-word in (packs_next c.args.words.now l.word-index l.open c.loop-word-test.true l.invariant.0).0
+    let here = c.loop-word-test.true in
+    room_first (now_slot w l.word-index l.open here).bytes (later_bytes w l.word-index l.open here) (rw (bytes_next w l.word-index l.open here) at l.invariant.1)
 
 pub loop-word-preserved : goal.loop-word-preserved
 loop-word-preserved c =

@@ -7,18 +7,18 @@ use Rattle.tape_encoder.proofs.Encoder.put_slot.Goals as goal
 pub put_run-requires-2 : goal.put_run-requires-2
 put_run-requires-2 c =
     let a = c.args in
-    let e = ends a.pending (command_in a.word) (no_nop _ c.requires.0 c.if-word-eq0.false) in
-    room_first (run_bytes a.pending) (command_bytes (command_in a.word)) (rw e at c.requires.1)
+    let e = ends a.pending (command_in a.slot.word) (no_nop _ a.slot.packs c.if-slot-eq0.false) in
+    room_first (run_bytes a.pending) (command_bytes (command_in a.slot.word)) (rw e at c.requires)
 
 pub put_command-requires : goal.put_command-requires
 put_command-requires c =
     let a = c.args in
-    let n = c.if-word-eq0.false in
-    let e = ends a.pending (command_in a.word) (no_nop _ c.requires.0 n) in
-    (c.requires.0, n, room_left (run_bytes a.pending) (command_bytes (command_in a.word)) (rw e at c.requires.1) c.put_run-2.ensures)
+    let n = c.if-slot-eq0.false in
+    let e = ends a.pending (command_in a.slot.word) (no_nop _ a.slot.packs n) in
+    (n, room_left (run_bytes a.pending) (command_bytes (command_in a.slot.word)) (rw e at c.requires) c.put_run-2.ensures)
 
 pub returns : goal.returns
 returns c =
     let a = c.args in
-    let e = ends a.pending (command_in a.word) (no_nop _ c.requires.0 c.if-word-eq0.false) in
-    rw e (puts_both (run_bytes a.pending) (command_bytes (command_in a.word)) c.put_run-2.ensures c.put_command.ensures)
+    let e = ends a.pending (command_in a.slot.word) (no_nop _ a.slot.packs c.if-slot-eq0.false) in
+    rw e (puts_both (run_bytes a.pending) (command_bytes (command_in a.slot.word)) c.put_run-2.ensures c.put_command.ensures)

@@ -1,8 +1,0 @@
-use lib.ListN.{length-append}
-use Rattle.packing.specs.Packing.{command_in}
-use Rattle.tape_encoder.proofs.Slots.{no_nop, ends}
-use Rattle.tape_encoder.proofs.slot_length.Goals as goal
-
-pub returns : goal.returns
-returns c =
-    simp (ends c.args.pending (command_in c.args.word) (no_nop _ c.requires c.if-word-eq0.false), length-append, ← c.run_length.ensures, ← c.command_length.ensures)
