@@ -1,3 +1,2 @@
 -- REPLAY.md, "Output".
-pub mod Line
 pub mod Output

@@ -10,7 +10,25 @@ use Rattle.plan.specs.declared.Report.{Report}
 use Rattle.plan.specs.Completion.{Completion, completion_of}
 use Rattle.queue.specs.declared.Kind.{Kind}
 use Rattle.packing.specs.Packing.{command_in, packs_command, report_in, packs_report}
-use Rattle.answer.specs.Line.{Line, Config, Read, Write, Slot, Backlog, Cell, Address, Bus, Slots, Packed, Unknown, Wrong, Record, Run, Ended, Refused}
+use Rattle.answer.specs.declared.Answer.{Answer}
+use Rattle.answer.specs.declared.Answer.TheVariants.{
+  Config,
+  Read,
+  Write,
+  Slot,
+  Backlog,
+  Cell,
+  Address,
+  Bus,
+  Slots,
+  Packed,
+  Unknown,
+  Wrong,
+  Record,
+  Run,
+  Ended,
+  Refused,
+}
 
 unfoldable pub and_word : Text → ℕ → Text
 and_word t w = word_of (byte_of t 32) w
@@ -103,15 +121,15 @@ record_line s c = byte_of (command_of (decimal_of empty_of s) c) 10
 unfoldable pub run_line : ℕ → ℕ → Text
 run_line s n = byte_of (and_one (decimal_of empty_of s) (letters "NOP") n) 10
 
--- the text of a line
-unfoldable pub answer_line : Line → Text
+-- the line of an answer
+unfoldable pub answer_line : Answer → Text
 answer_line (Config n) = number_line (letters "config") n
 answer_line (Read n r) = pair_line (letters "read") n r
 answer_line (Write n r) = pair_line (letters "write") n r
 answer_line (Slot n c r) = slot_line n c r
 answer_line (Backlog n b) = pair_line (letters "backlog") n b
-answer_line (Cell a) = cell_line a
-answer_line (Address a) = pair_line (letters "address") a.number a.address
+answer_line (Cell n c) = cell_line (record { number = n; cell = c })
+answer_line (Address n a) = pair_line (letters "address") n a
 answer_line (Bus n) = number_line (letters "bus") n
 answer_line (Slots n k) = pair_line (letters "slots") n k
 answer_line (Packed c r) = packed_line c r

@@ -23,32 +23,29 @@ ghost use Rattle.answer.specs.Output.{
   run_line,
   answer_line,
 };
-ghost use Rattle.answer.specs.Line.{line_in};
-ghost use Rattle.refusal.specs.Refused.{number_in, value_in};
-ghost use Rattle.standalone.specs.Answers.{cell_in};
 
-use address::{Bank, Cell, Column, Row};
+use address::{Bank, Cell};
 use command::Command;
 use plan::Report;
-use refusal::Refusal;
 use script::{ADDRESS, BACKLOG, BUS, CELL, CONFIG, READ, SLOT, SLOTS, WRITE};
 use text::Text;
 
-// The answer to one line of a script, or what is said of one record of a tape.
+// The answer to one line of a script, or what is said of one record of a tape. A call's answer has a number of document 01's table first: a number and no Refusal,
+// since `answer_line` has a line for every one.
 #[derive(Clone, Copy)]
 pub enum Answer {
-    Config(Result<(), Refusal>),
-    // The request's number.
-    Read(Result<u32, Refusal>),
-    Write(Result<u32, Refusal>),
-    Slot(Result<(), Refusal>, Command, Report),
-    Backlog(Result<u8, Refusal>),
-    Cell(Result<Cell, Refusal>),
-    Address(Result<u32, Refusal>),
+    Config(u8),
+    // And the request's number.
+    Read(u8, u32),
+    Write(u8, u32),
+    Slot(u8, Command, Report),
+    Backlog(u8, u8),
+    Cell(u8, Cell),
+    Address(u8, u32),
     // How many halfwords wait.
     Bus(usize),
-    // How many slots were run.
-    Slots(Result<usize, Refusal>),
+    // And how many slots were run.
+    Slots(u8, usize),
     // One of those slots: the words of its command and of its report.
     Packed(u64, u64),
     // A place beyond those slots that is no longer 0.
@@ -180,13 +177,6 @@ fn pair_line(letters: u64, a: u8, b: u64) -> Text
     and_number(begun(letters, a as u64), b).byte(10)
 }
 
-// The line of a call's answer: its number, and its value or 0.
-fn value_line(letters: u64, answer: Result<u64, Refusal>) -> Text
-    ensures { result ≡ pair_line letters (number_in answer) (value_in answer) }
-{
-    pair_line(letters, refusal::number_in(&answer), answer.unwrap_or(0))
-}
-
 #[tactic(auto, unfolding(crate::specs::Output::slot_line))]
 fn slot_line(number: u8, command: Command, report: Report) -> Text
     ensures { result ≡ slot_line number command report }
@@ -240,15 +230,9 @@ fn unknown_line() -> Text
 }
 
 #[tactic(auto, unfolding(crate::specs::Output::cell_line))]
-fn cell_line(answer: Result<Cell, Refusal>) -> Text
-    ensures { result ≡ cell_line (cell_in answer) }
+fn cell_line(number: u8, cell: Cell) -> Text
+    ensures { result ≡ cell_line (record { number = number; cell = cell }) }
 {
-    let number = refusal::number_in(&answer);
-    let cell = answer.unwrap_or(Cell {
-        bank: Bank(0),
-        row: Row(0),
-        column: Column(0),
-    });
     let bank = and_number(begun(CELL, number as u64), cell.bank.0 as u64);
     and_number(and_number(bank, cell.row.0 as u64), cell.column.0 as u64).byte(10)
 }
@@ -273,20 +257,18 @@ impl Answer {
     // The line that is written for it.
     #[tactic(auto, unfolding(crate::specs::Output::answer_line))]
     pub fn line(self) -> Text
-        ensures { result ≡ answer_line (line_in self) }
+        ensures { result ≡ answer_line self }
     {
         match self {
-            Answer::Config(answer) => number_line(CONFIG, refusal::number_in(&answer) as u64),
-            Answer::Read(answer) => value_line(READ, answer.map(u64::from)),
-            Answer::Write(answer) => value_line(WRITE, answer.map(u64::from)),
-            Answer::Slot(answer, command, report) => {
-                slot_line(refusal::number_in(&answer), command, report)
-            }
-            Answer::Backlog(answer) => value_line(BACKLOG, answer.map(u64::from)),
-            Answer::Cell(answer) => cell_line(answer),
-            Answer::Address(answer) => value_line(ADDRESS, answer.map(u64::from)),
+            Answer::Config(number) => number_line(CONFIG, number as u64),
+            Answer::Read(number, request) => pair_line(READ, number, request as u64),
+            Answer::Write(number, request) => pair_line(WRITE, number, request as u64),
+            Answer::Slot(number, command, report) => slot_line(number, command, report),
+            Answer::Backlog(number, backlog) => pair_line(BACKLOG, number, backlog as u64),
+            Answer::Cell(number, cell) => cell_line(number, cell),
+            Answer::Address(number, address) => pair_line(ADDRESS, number, address as u64),
             Answer::Bus(waiting) => number_line(BUS, waiting as u64),
-            Answer::Slots(answer) => value_line(SLOTS, answer.map(|count| count as u64)),
+            Answer::Slots(number, count) => pair_line(SLOTS, number, count as u64),
             Answer::Packed(command, report) => packed_line(command, report),
             Answer::Unknown => unknown_line(),
             Answer::Wrong(line) => number_line(ERROR, line),

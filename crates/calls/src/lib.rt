@@ -2,8 +2,7 @@
 #![tactic(auto)]
 
 ghost use Rattle.std.specs.Prelude.{◌≤◌, ◌≡◌, length};
-ghost use Rattle.refusal.specs.Refused.{number_in, value_in};
-ghost use Rattle.answer.specs.Line.{Line, line_in};
+ghost use Rattle.answer.specs.declared.Answer.{Answer};
 ghost use Rattle.calls.specs.Played.{
   played_of,
   config_played,
@@ -15,11 +14,11 @@ ghost use Rattle.calls.specs.Played.{
   address_played,
 };
 
-use address::Cell;
+use address::{Bank, Cell, Column, Row};
 use answer::Answer;
 use output::{Out, say};
 use queue::Kind;
-use refusal::Refusal;
+use refusal::number_in;
 use sequencer::Machine;
 use text::Text;
 
@@ -30,67 +29,82 @@ pub struct Played {
     pub text: Text,
 }
 
+#[tactic(auto, unfolding(crate::specs::Played::config_played, crate::specs::Played::played_of))]
 pub fn configure(cfg: u32, row: u32, refr: u32, tim: u32) -> Played
     ensures { result ≡ config_played cfg row refr tim }
 {
     let configured = Machine::configure(cfg, row, refr, tim);
-    let text = Answer::Config(configured.answer).line();
+    let text = Answer::Config(number_in(&configured.answer)).line();
     let machine = configured.machine;
     Played { machine, text }
 }
 
-fn request_line(kind: Kind, answer: Result<u32, Refusal>) -> Answer
-    ensures { line_in result ≡ request_line kind (number_in answer) (value_in answer) }
+fn request_line(kind: Kind, number: u8, request: u32) -> Answer
+    ensures { result ≡ request_line kind number request }
 {
     match kind {
-        Kind::Read => Answer::Read(answer),
-        Kind::Write => Answer::Write(answer),
+        Kind::Read => Answer::Read(number, request),
+        Kind::Write => Answer::Write(number, request),
     }
 }
 
+#[tactic(auto, unfolding(crate::specs::Played::request_played, crate::specs::Played::played_of))]
 pub fn request(before: Machine, kind: Kind, address: u32, halfword: u16) -> Played
     ensures { result ≡ request_played before kind address halfword }
 {
     let requested = before.request(kind, address, halfword);
-    let text = request_line(kind, requested.answer).line();
+    let number = number_in(&requested.answer);
+    let text = request_line(kind, number, requested.answer.unwrap_or(0)).line();
     let machine = requested.machine;
     Played { machine, text }
 }
 
+#[tactic(auto, unfolding(crate::specs::Played::slot_played, crate::specs::Played::played_of))]
 pub fn slot(before: Machine, bus: u16) -> Played
     ensures { result ≡ slot_played before bus }
 {
     let slot = before.slot(bus);
     let command = slot.command;
     let report = slot.report;
-    let text = Answer::Slot(slot.answer, command, report).line();
+    let text = Answer::Slot(number_in(&slot.answer), command, report).line();
     let machine = slot.machine;
     Played { machine, text }
 }
 
+#[tactic(auto, unfolding(crate::specs::Played::backlog_played, crate::specs::Played::played_of))]
 pub fn backlog(machine: Machine) -> Played
     ensures { result ≡ backlog_played machine }
 {
-    let text = Answer::Backlog(machine.backlog()).line();
+    let backlog = machine.backlog();
+    let text = Answer::Backlog(number_in(&backlog), backlog.unwrap_or(0)).line();
     Played { machine, text }
 }
 
+#[tactic(auto, unfolding(crate::specs::Played::cell_played, crate::specs::Played::played_of))]
 pub fn cell(machine: Machine, cfg: u32, row: u32, address: u32) -> Played
     ensures { result ≡ cell_played machine cfg row address }
 {
-    let text = Answer::Cell(standalone::to_cell(cfg, row, address)).line();
+    let answer = standalone::to_cell(cfg, row, address);
+    let cell = answer.unwrap_or(Cell {
+        bank: Bank(0),
+        row: Row(0),
+        column: Column(0),
+    });
+    let text = Answer::Cell(number_in(&answer), cell).line();
     Played { machine, text }
 }
 
+#[tactic(auto, unfolding(crate::specs::Played::address_played, crate::specs::Played::played_of))]
 pub fn address_of(machine: Machine, cfg: u32, row: u32, cell: Cell) -> Played
     ensures { result ≡ address_played machine cfg row cell }
 {
-    let text = Answer::Address(standalone::to_address(cfg, row, cell)).line();
+    let answer = standalone::to_address(cfg, row, cell);
+    let text = Answer::Address(number_in(&answer), answer.unwrap_or(0)).line();
     Played { machine, text }
 }
 
 pub fn bus(machine: Machine, halfwords: usize) -> Played
-    ensures { result ≡ played_of machine (Line.Bus halfwords) }
+    ensures { result ≡ played_of machine (Answer.Bus halfwords) }
 {
     let text = Answer::Bus(halfwords).line();
     Played { machine, text }
@@ -98,7 +112,7 @@ pub fn bus(machine: Machine, halfwords: usize) -> Played
 
 // A line that is no call, by its number.
 pub fn wrong(machine: Machine, number: u64) -> Played
-    ensures { result ≡ played_of machine (Line.Wrong number) }
+    ensures { result ≡ played_of machine (Answer.Wrong number) }
 {
     let text = Answer::Wrong(number).line();
     Played { machine, text }
@@ -147,15 +161,15 @@ fn beyond(
 pub fn tell(
     rt: &(impl Print + Eprint),
     out: Out,
-    answer: Result<usize, Refusal>,
+    number: u8,
+    count: usize,
     commands: &[u64],
     reports: &[u64],
     output: &mut [u8],
 ) -> Out
     ensures { result.waiting ≤ length output.old }
 {
-    let first = say(rt, out, Answer::Slots(answer).line(), output);
-    let count = answer.unwrap_or(0);
+    let first = say(rt, out, Answer::Slots(number, count).line(), output);
     let all = unpacked(rt, first, commands, reports, count, output);
     beyond(
         rt,

@@ -10,7 +10,7 @@ use calls::Played;
 use output::{Out, say};
 use packing::pack_command;
 use queue::Kind;
-use refusal::Refusal;
+use refusal::{Refusal, number_in};
 use script::{Call, Line, NUMBERS};
 use sequencer::{Answered, Machine};
 
@@ -227,7 +227,15 @@ fn told(
 ) -> Run {
     match run.mode {
         Mode::Lines => Run {
-            out: calls::tell(rt, run.out, answer, commands, reports, output),
+            out: calls::tell(
+                rt,
+                run.out,
+                number_in(&answer),
+                answer.unwrap_or(0),
+                commands,
+                reports,
+                output,
+            ),
             ..run
         },
         Mode::Tape => {

@@ -261,7 +261,7 @@ impl Machine {
         let mut control = self.control;
         let mut queue = self.queue;
         let turned = turn::turn(
-            tested,
+            refusal::number_in(&tested),
             self.config,
             &mut past,
             &mut counters,

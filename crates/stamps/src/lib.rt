@@ -17,7 +17,7 @@ pub const FIRST: u64 = 32;
 pub struct Stamps {
     pub last: [u64; 16],
     pub clock: u64,
-    pub ghost earlier: { (i : ℕ) → get_or last i 0 < clock },
+    pub ghost earlier: { (i : ℕ) → get_or last i 0 ≤ clock },
     pub ghost far: { clock < 2 ^ 63 },
 }
 
@@ -42,7 +42,7 @@ impl Stamps {
 
     // Is a distance kept from a stamp?
     pub fn reached(&self, stamp: u64, distance: u8) -> bool
-        requires { stamp < self.now.clock }
+        requires { stamp ≤ self.now.clock }
         ensures { result ≡ leb (stamp + distance) self.now.clock }
     {
         stamp + distance as u64 <= self.clock
@@ -72,87 +72,76 @@ impl Stamps {
         0 < self.last[9]
     }
 
-    // What each command leaves, and the slot behind it. One function for each and none for any: the judge makes no `Command` of a record (docs/PERFORMANCE.md).
+    // What each command leaves, in the slot that the clock shows. One function for each and none for any: the judge makes no `Command` of a record (docs/PERFORMANCE.md).
 
     #[tactic(auto, using(crate::proofs::Noted::act_noted))]
     pub fn note_act(&mut self, bank: Bank)
-        requires { (bank.0 < 4) × (self.old.clock < 2 ^ 62) }
+        requires { bank.0 < 4 }
         ensures last { (row : Row) → self.new.last ≡ stamped_of self.old.clock (Command.Act bank row) self.old.last }
-        ensures clock { self.new.clock ≡ self.old.clock + 1 }
+        ensures clock { self.new.clock ≡ self.old.clock }
     {
         let b = bank.0 as usize;
         self.last[b] = self.clock;
-        self.clock += 1;
     }
 
     #[tactic(auto, using(crate::proofs::Noted::read_noted))]
     pub fn note_read(&mut self)
-        requires { self.old.clock < 2 ^ 62 }
         ensures last { (bank : Bank) (column : Column) → self.new.last ≡ stamped_of self.old.clock (Command.Read bank column) self.old.last }
-        ensures clock { self.new.clock ≡ self.old.clock + 1 }
+        ensures clock { self.new.clock ≡ self.old.clock }
     {
         self.last[11] = self.clock;
-        self.clock += 1;
     }
 
     #[tactic(auto, using(crate::proofs::Noted::wrt_noted))]
     pub fn note_wrt(&mut self, bank: Bank)
-        requires { (bank.0 < 4) × (self.old.clock < 2 ^ 62) }
+        requires { bank.0 < 4 }
         ensures last { (column : Column) (halfword : ℕ) → self.new.last ≡ stamped_of self.old.clock (Command.Wrt bank column halfword) self.old.last }
-        ensures clock { self.new.clock ≡ self.old.clock + 1 }
+        ensures clock { self.new.clock ≡ self.old.clock }
     {
         let b = bank.0 as usize;
         self.last[12 + b] = self.clock;
-        self.clock += 1;
     }
 
     #[tactic(auto, using(crate::proofs::Noted::pre_noted))]
     pub fn note_pre(&mut self, bank: Bank)
-        requires { (bank.0 < 4) × (self.old.clock < 2 ^ 62) }
+        requires { bank.0 < 4 }
         ensures last { self.new.last ≡ stamped_of self.old.clock (Command.Pre bank) self.old.last }
-        ensures clock { self.new.clock ≡ self.old.clock + 1 }
+        ensures clock { self.new.clock ≡ self.old.clock }
     {
         let b = bank.0 as usize;
         self.last[4 + b] = self.clock;
         self.last[10] = self.clock;
-        self.clock += 1;
     }
 
     #[tactic(auto, using(crate::proofs::Noted::deac_noted))]
     pub fn note_deac(&mut self)
-        requires { self.old.clock < 2 ^ 62 }
         ensures last { self.new.last ≡ stamped_of self.old.clock Command.Deac self.old.last }
-        ensures clock { self.new.clock ≡ self.old.clock + 1 }
+        ensures clock { self.new.clock ≡ self.old.clock }
     {
         self.last[4] = self.clock;
         self.last[5] = self.clock;
         self.last[6] = self.clock;
         self.last[7] = self.clock;
         self.last[10] = self.clock;
-        self.clock += 1;
     }
 
     #[tactic(auto, using(crate::proofs::Noted::refr_noted))]
     pub fn note_refr(&mut self)
-        requires { self.old.clock < 2 ^ 62 }
         ensures last { self.new.last ≡ stamped_of self.old.clock Command.Refr self.old.last }
-        ensures clock { self.new.clock ≡ self.old.clock + 1 }
+        ensures clock { self.new.clock ≡ self.old.clock }
     {
         self.last[8] = self.clock;
-        self.clock += 1;
     }
 
     #[tactic(auto, using(crate::proofs::Noted::mrs_noted))]
     pub fn note_mrs(&mut self)
-        requires { self.old.clock < 2 ^ 62 }
         ensures last { (word : ℕ) → self.new.last ≡ stamped_of self.old.clock (Command.Mrs word) self.old.last }
-        ensures clock { self.new.clock ≡ self.old.clock + 1 }
+        ensures clock { self.new.clock ≡ self.old.clock }
     {
         self.last[9] = self.clock;
-        self.clock += 1;
     }
 
-    // Slots without a command pass.
+    // Slots pass.
     pub fn pass(&mut self, slots: u16)
         requires { self.old.clock < 2 ^ 62 }
         ensures last { self.new.last ≡ self.old.last }

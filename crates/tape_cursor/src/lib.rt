@@ -64,6 +64,7 @@ fn take_act(c: Config, past: &mut Stamps, tape: &[u8], p: Cursor) -> Option<Curs
     let row = Row(pair_at(tape, p.at + 2));
     if tape_legality::act_legal(c, past, bank, row) {
         past.note_act(bank);
+        past.pass(1);
         return sent(p, 4);
     }
     None
@@ -82,6 +83,7 @@ fn take_read(c: Config, past: &mut Stamps, tape: &[u8], p: Cursor) -> Option<Cur
     let column = Column(pair_at(tape, p.at + 2));
     if tape_legality::read_legal(c, past, bank, column) {
         past.note_read();
+        past.pass(1);
         return sent(p, 4);
     }
     None
@@ -100,6 +102,7 @@ fn take_wrt(c: Config, past: &mut Stamps, tape: &[u8], p: Cursor) -> Option<Curs
     let column = Column(pair_at(tape, p.at + 2));
     if tape_legality::wrt_legal(c, past, bank, column) {
         past.note_wrt(bank);
+        past.pass(1);
         return sent(p, 6);
     }
     None
@@ -117,6 +120,7 @@ fn take_pre(c: Config, past: &mut Stamps, tape: &[u8], p: Cursor) -> Option<Curs
     let bank = Bank(tape[p.at + 1]);
     if tape_legality::pre_legal(c, past, bank) {
         past.note_pre(bank);
+        past.pass(1);
         return sent(p, 2);
     }
     None
@@ -130,6 +134,7 @@ fn take_deac(c: Config, past: &mut Stamps, tape: &[u8], p: Cursor) -> Option<Cur
 {
     if tape_legality::deac_legal(c, past) {
         past.note_deac();
+        past.pass(1);
         return sent(p, 1);
     }
     None
@@ -143,6 +148,7 @@ fn take_refr(c: Config, past: &mut Stamps, tape: &[u8], p: Cursor) -> Option<Cur
 {
     if tape_legality::refr_legal(c, past) {
         past.note_refr();
+        past.pass(1);
         return sent(p, 1);
     }
     None
@@ -159,6 +165,7 @@ fn take_mrs(c: Config, past: &mut Stamps, tape: &[u8], p: Cursor) -> Option<Curs
     }
     if tape_legality::mrs_legal(c, past, pair_at(tape, p.at + 1)) {
         past.note_mrs();
+        past.pass(1);
         return sent(p, 3);
     }
     None

@@ -21,7 +21,7 @@ use Rattle.stamps.proofs.Agree.{open_is}
 use Rattle.stamps.specs.Stamps.{open_at, by_stamps}
 use Rattle.tape_legality.specs.Tests.{settled_of, latest_of, free_of, all_free_of, any_open_of}
 
-pub latest_earlier : (l : List ℕ) (now : ℕ) → ((i : ℕ) → get_or l i 0 < now) → latest_of l < now
+pub latest_earlier : (l : List ℕ) (now : ℕ) → ((i : ℕ) → get_or l i 0 ≤ now) → latest_of l ≤ now
 unfolding latest_of
 latest_earlier l now h = omega (arith, h 0, h 1, h 2, h 3)
 

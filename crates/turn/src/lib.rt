@@ -3,7 +3,6 @@
 #![tactic(auto)]
 
 ghost use Rattle.std.specs.Prelude.{◌≡◌, length};
-ghost use Rattle.refusal.specs.Refused.{number_in};
 ghost use Rattle.config.specs.Accepted.{Shaped};
 ghost use Rattle.plan.specs.Actions.{under_way};
 ghost use Rattle.plan.specs.Plan.{queue_after};
@@ -17,7 +16,6 @@ use config::Config;
 use plan::{Action, Control, Report};
 use queue::Queue;
 use refresh::Counters;
-use refusal::Refusal;
 
 // What a slot gives, beside what it changes in place: its command and report, and their words (docs/PACKING.md).
 #[derive(Clone, Copy)]
@@ -103,10 +101,11 @@ fn refused() -> Turned
     }
 }
 
-// One slot, where the tests refuse none. A refused one is a NOP that reports nothing, and nothing changes.
+// One slot where the number is 0; any other number refuses it: a NOP that reports nothing, and nothing changes. A number and no Refusal: this takes every one,
+// as `turned_of` does.
 #[tactic(auto, unfolding(crate::specs::Parts::turned_of, packing::specs::Packing::word_of, packing::specs::Packing::command_word, packing::specs::Packing::report_word))]
 pub fn turn(
-    tested: Result<(), Refusal>,
+    number: u8,
     c: Config,
     past: &mut Past,
     counters: &mut Counters,
@@ -114,11 +113,11 @@ pub fn turn(
     queue: &mut Queue,
     bus: u16,
 ) -> Turned
-    requires { number_in tested ≡ 0 → Shaped c.geometry }
-    ensures parts { gathered past.new counters.new control.new queue.new result ≡ turned_of (number_in tested) c past.old counters.old control.old queue.old bus }
+    requires { number ≡ 0 → Shaped c.geometry }
+    ensures parts { gathered past.new counters.new control.new queue.new result ≡ turned_of number c past.old counters.old control.old queue.old bus }
     ensures words { (result.sent ≡ command_word result.command) × (result.told ≡ report_word result.report) }
 {
-    if tested.is_err() {
+    if number != 0 {
         return refused();
     }
     step(c, past, counters, control, queue, bus)

@@ -1,3 +1,5 @@
+use Prim.Native.Nat.{ℕ, ◌+◌}
+use mathlib.Core.Path.{ap, ◌∙◌}
 use lib.Dec.{lit≤}
 use Rattle.tape.specs.Reading.{body_length}
 use Rattle.device.proofs.Tests.{told}
@@ -11,7 +13,7 @@ returns-then-tape-p-lt2-clause-last_after c =
 
 pub returns-then-pre_legal-clause-last_after : goal.returns-then-pre_legal-clause-last_after
 returns-then-pre_legal-clause-last_after c =
-    rw c.sent.ensures (legal_sent c.args.c c.args.past.now.last c.args.past.now.clock c.args.tape.now c.args.p _ 2 (pre_step c.requires.2 c.if-tape-p-lt2.false) (told c.pre_legal.ensures c.if-pre_legal.true) c.note_pre.ensures.last c.note_pre.ensures.clock)
+    rw c.sent.ensures (legal_sent c.args.c c.args.past.now.last c.args.past.now.clock c.args.tape.now c.args.p _ 2 (pre_step c.requires.2 c.if-tape-p-lt2.false) (told c.pre_legal.ensures c.if-pre_legal.true) (c.pass.ensures.last ∙ c.note_pre.ensures.last) (c.pass.ensures.clock ∙ ap (λ (n : ℕ). n + 1) c.note_pre.ensures.clock))
 
 pub returns-clause-last_after : goal.returns-clause-last_after
 returns-clause-last_after c =

@@ -1,3 +1,5 @@
+use Prim.Native.Nat.{ℕ, ◌+◌}
+use mathlib.Core.Path.{ap, ◌∙◌}
 use lib.Dec.{lit≤}
 use Rattle.tape.specs.Reading.{body_length}
 use Rattle.device.proofs.Tests.{told}
@@ -11,7 +13,7 @@ returns-then-tape-p-lt4-clause-last_after c =
 
 pub returns-then-read_legal-clause-last_after : goal.returns-then-read_legal-clause-last_after
 returns-then-read_legal-clause-last_after c =
-    rw c.sent.ensures (legal_sent c.args.c c.args.past.now.last c.args.past.now.clock c.args.tape.now c.args.p _ 4 (rw (← c.pair_at.ensures) at (read_step c.requires.2 c.if-tape-p-lt4.false)) (told c.read_legal.ensures c.if-read_legal.true) (c.note_read.ensures.last _ _) c.note_read.ensures.clock)
+    rw c.sent.ensures (legal_sent c.args.c c.args.past.now.last c.args.past.now.clock c.args.tape.now c.args.p _ 4 (rw (← c.pair_at.ensures) at (read_step c.requires.2 c.if-tape-p-lt4.false)) (told c.read_legal.ensures c.if-read_legal.true) (c.pass.ensures.last ∙ c.note_read.ensures.last _ _) (c.pass.ensures.clock ∙ ap (λ (n : ℕ). n + 1) c.note_read.ensures.clock))
 
 pub returns-clause-last_after : goal.returns-clause-last_after
 returns-clause-last_after c =
