@@ -16,7 +16,7 @@ ghost use Rattle.calls.specs.Played.{
 
 use address::{Bank, Cell, Column, Row};
 use answer::Answer;
-use output::{Out, say};
+use output::Output;
 use queue::Kind;
 use refusal::number_in;
 use sequencer::Machine;
@@ -121,61 +121,47 @@ pub fn wrong(machine: Machine, number: u64) -> Played
 // The lines of the first `count` slots, unpacked from their words.
 fn unpacked(
     rt: &(impl Print + Eprint),
-    out: Out,
+    output: &mut Output,
     commands: &[u64],
     reports: &[u64],
     count: usize,
-    output: &mut [u8],
-) -> Out
-    requires { out.waiting ≤ length output.old }
-    ensures { result.waiting ≤ length output.old }
+)
+    requires { output.old.waiting ≤ length output.old.buffer.now }
+    ensures waiting { output.new.waiting ≤ length output.old.buffer.now }
+    ensures len { length output.new.buffer.now ≡ length output.old.buffer.now }
 {
-    let mut out = out;
     for (&command, &report) in commands.iter().zip(reports).take(count) {
-        out = say(rt, out, Answer::Packed(command, report).line(), output);
+        output.say(rt, Answer::Packed(command, report).line());
     }
-    out
 }
 
 // A line for each place beyond the first `count` that is not 0 any more. They are still 0: the contract of `slots` says so.
-fn beyond(
-    rt: &(impl Print + Eprint),
-    out: Out,
-    words: &[u64],
-    count: usize,
-    output: &mut [u8],
-) -> Out
-    requires { out.waiting ≤ length output.old }
-    ensures { result.waiting ≤ length output.old }
+fn beyond(rt: &(impl Print + Eprint), output: &mut Output, words: &[u64], count: usize)
+    requires { output.old.waiting ≤ length output.old.buffer.now }
+    ensures waiting { output.new.waiting ≤ length output.old.buffer.now }
+    ensures len { length output.new.buffer.now ≡ length output.old.buffer.now }
 {
-    let mut out = out;
     for &word in words.iter().skip(count) {
         if word != 0 {
-            out = say(rt, out, Answer::Unknown.line(), output);
+            output.say(rt, Answer::Unknown.line());
         }
     }
-    out
 }
 
 // The lines of a call for many slots. What waits afterwards stands within the buffer.
 pub fn tell(
     rt: &(impl Print + Eprint),
-    out: Out,
+    output: &mut Output,
     number: u8,
     count: usize,
     commands: &[u64],
     reports: &[u64],
-    output: &mut [u8],
-) -> Out
-    ensures { result.waiting ≤ length output.old }
+)
+    ensures waiting { output.new.waiting ≤ length output.old.buffer.now }
+    ensures len { length output.new.buffer.now ≡ length output.old.buffer.now }
 {
-    let first = say(rt, out, Answer::Slots(number, count).line(), output);
-    let all = unpacked(rt, first, commands, reports, count, output);
-    beyond(
-        rt,
-        beyond(rt, all, commands, count, output),
-        reports,
-        count,
-        output,
-    )
+    output.say(rt, Answer::Slots(number, count).line());
+    unpacked(rt, output, commands, reports, count);
+    beyond(rt, output, commands, count);
+    beyond(rt, output, reports, count);
 }

@@ -5,7 +5,7 @@
 ghost use Rattle.std.specs.Prelude.{◌<◌, ◌≤◌, length};
 
 use answer::Answer;
-use output::{Out, fail, large_buffer, say};
+use output::{Output, fail, large_buffer};
 use std::io::Read;
 use tape_scan::{Refused, scan};
 use text::Text;
@@ -32,53 +32,40 @@ fn begun(letters: u64, n: u64) -> Text {
 }
 
 // Every front part of a tape.
-fn cuts(rt: &(impl Print + Eprint), out: Out, tape: &[u8], output: &mut [u8]) -> Out {
-    let mut out = out;
+fn cuts(rt: &(impl Print + Eprint), tape: &[u8], output: &mut Output) {
     for kept in 0..=tape.len() {
-        out = say(rt, out, begun(CUT, kept as u64), output);
-        out = say(rt, out, verdict(scan(&tape[..kept])), output);
+        output.say(rt, begun(CUT, kept as u64));
+        output.say(rt, verdict(scan(&tape[..kept])));
     }
-    out
 }
 
 // Every tape that has another byte, or the same, at a place.
-fn values(
-    rt: &(impl Print + Eprint),
-    out: Out,
-    tape: &mut [u8],
-    place: usize,
-    output: &mut [u8],
-) -> Out
+fn values(rt: &(impl Print + Eprint), tape: &mut [u8], place: usize, output: &mut Output)
     requires { place < length tape.old }
 {
-    let mut out = out;
     for value in 0..=u8::MAX {
         tape[place] = value;
-        out = say(
+        output.say(
             rt,
-            out,
             begun(CHANGE, place as u64).decimal(value as u64).byte(32),
-            output,
         );
-        out = say(rt, out, verdict(scan(tape)), output);
+        output.say(rt, verdict(scan(tape)));
     }
-    out
 }
 
 // And at every place.
-fn changes(rt: &(impl Print + Eprint), out: Out, tape: &mut [u8], output: &mut [u8]) -> Out {
-    let mut out = out;
+fn changes(rt: &(impl Print + Eprint), tape: &mut [u8], output: &mut Output) {
     for place in 0..tape.len() {
         let byte = tape[place];
-        out = values(rt, out, tape, place, output);
+        values(rt, tape, place, output);
         tape[place] = byte;
     }
-    out
 }
 
-fn damaged(rt: &(impl Print + Eprint), tape: &mut [u8], output: &mut [u8]) {
-    let out = cuts(rt, output::nothing(), tape, output);
-    output::written(rt, changes(rt, out, tape, output), output);
+fn damaged(rt: &(impl Print + Eprint), tape: &mut [u8], output: &mut Output) {
+    cuts(rt, tape, output);
+    changes(rt, tape, output);
+    output.flush(rt);
 }
 
 // After what was read: has the input ended?
@@ -111,13 +98,13 @@ fn read_full(rt: &impl Input, input: &mut [u8]) -> usize
 
 fn main(rt: HostRuntime) {
     let mut input = large_buffer();
-    let mut output = large_buffer();
+    let mut buffer = large_buffer();
     let n = read_full(&rt, &mut input);
     if MOST < n {
         let _ = eprintln!(rt; "damage: give a tape of 4,096 bytes at most");
         return;
     }
     if ended(&rt) {
-        damaged(&rt, &mut input[..n], &mut output);
+        damaged(&rt, &mut input[..n], &mut Output::new(&mut buffer));
     }
 }

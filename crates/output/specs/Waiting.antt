@@ -1,17 +1,17 @@
 -- The bytes that wait in a buffer, as the contracts of the code say them.
-use Rattle.std.specs.Prelude.{ℕ, ◌+◌, true, false, cond, ◌≡◌, ltb}
-use Rattle.output.specs.declared.Out.{Out}
+use Rattle.std.specs.Prelude.{ℕ, ◌+◌, true, false, cond, ◌≡◌, ltb, length}
+use Rattle.output.specs.declared.Output.{Output}
 
 -- how many bytes go on waiting in a buffer of `room` places, if `needed` places are wanted behind them: all, or none
-unfoldable pub kept_of : Out → ℕ → ℕ → ℕ
-kept_of out needed room = cond (ltb room (out.waiting + needed)) 0 out.waiting
+unfoldable pub kept_of : ℕ → ℕ → ℕ → ℕ
+kept_of waiting needed room = cond (ltb room (waiting + needed)) 0 waiting
 
 -- After a failure nothing is written; otherwise nothing waits any more.
-pub record Emptied (out r : Out) : Type 0 where
-  pub stays : out.failed ≡ true → r ≡ out
-  pub empty : r.failed ≡ false → r.waiting ≡ 0
+pub record Emptied (before after : Output) : Type 0 where
+  pub stays : before.failed ≡ true → after ≡ before
+  pub empty : after.failed ≡ false → after.waiting ≡ 0
 
 -- After a failure nothing is written; otherwise there is room.
-pub record Roomy (out : Out) (needed room : ℕ) (r : Out) : Type 0 where
-  pub stays : out.failed ≡ true → r ≡ out
-  pub kept : r.failed ≡ false → r.waiting ≡ kept_of out needed room
+pub record Roomy (before : Output) (needed : ℕ) (after : Output) : Type 0 where
+  pub stays : before.failed ≡ true → after ≡ before
+  pub kept : after.failed ≡ false → after.waiting ≡ kept_of before.waiting needed (length before.buffer.now)

@@ -7,21 +7,14 @@ ghost use Rattle.output.specs.Waiting.{Emptied, Roomy};
 use std::io;
 use text::Text;
 
-#[derive(Clone, Copy)]
-pub struct Out {
+// Bytes on their way to standard output.
+#[derive(Drop)]
+pub struct Output<'a> {
+    pub buffer: &'a mut [u8],
     // How many bytes wait, from the buffer's first place on.
     pub waiting: usize,
     // Has reading or writing failed? Then nothing more is written.
     pub failed: bool,
-}
-
-pub fn nothing() -> Out
-    ensures { result ≡ record { waiting = 0; failed = false } }
-{
-    Out {
-        waiting: 0,
-        failed: false,
-    }
 }
 
 // 65,536 zeros, to read or write much in one call.
@@ -31,18 +24,7 @@ pub fn large_buffer() -> [u8; 65536]
     [0; 65536]
 }
 
-// Puts a text behind the bytes that wait, as far as there is room, and answers how many wait then.
-pub fn put(output: &mut [u8], waiting: usize, text: Text) -> usize
-    requires { waiting ≤ length output.old }
-    ensures { (waiting ≤ result) × (result ≤ length output.old) }
-{
-    let count = text.count.min(64).min(output.len() - waiting);
-    let end = waiting + count;
-    output[waiting..end].copy_from_slice(&text.bytes[..count]);
-    end
-}
-
-// Says on standard error what failed, and why. The answer is what `Out.failed` is from then on.
+// Says on standard error what failed, and why. The answer is what `failed` is from then on.
 pub fn fail(rt: &impl Eprint, what: &str, why: io::Error) -> bool
     ensures { result ≡ true }
 {
@@ -50,52 +32,70 @@ pub fn fail(rt: &impl Eprint, what: &str, why: io::Error) -> bool
     true
 }
 
-// Writes the bytes that wait, and answers whether that failed.
-fn flush(rt: &(impl Print + Eprint), output: &[u8], waiting: usize) -> bool
-    requires { waiting ≤ length output.now }
-{
-    match rt.write_all(&output[..waiting]) {
-        Ok(()) => false,
-        Err(why) => fail(rt, "write", why),
+impl<'a> Output<'a> {
+    pub fn new(buffer: &'a mut [u8]) -> Output<'a>
+        ensures { (result.waiting ≡ 0) × (result.failed ≡ false) × (result.buffer.now ≡ buffer.old) }
+    {
+        Output {
+            buffer,
+            waiting: 0,
+            failed: false,
+        }
     }
-}
 
-// Writes what waits. Where that fails, nothing more is written.
-pub fn written(rt: &(impl Print + Eprint), out: Out, output: &[u8]) -> Out
-    ensures { Emptied out result }
-{
-    if out.failed {
-        return out;
+    // Writes the bytes that wait, and answers whether that failed.
+    fn write(&self, rt: &(impl Print + Eprint)) -> bool {
+        let waiting = self.waiting.min(self.buffer.len());
+        match rt.write_all(&self.buffer[..waiting]) {
+            Ok(()) => false,
+            Err(why) => fail(rt, "write", why),
+        }
     }
-    let waiting = out.waiting.min(output.len());
-    Out {
-        waiting: 0,
-        failed: flush(rt, output, waiting),
-    }
-}
 
-// Writes what waits where fewer than `needed` places are left behind it.
-pub fn with_room(rt: &(impl Print + Eprint), out: Out, needed: usize, output: &[u8]) -> Out
-    ensures { Roomy out needed (length output.now) result }
-{
-    let waiting = out.waiting;
-    if output.len() < waiting {
-        return written(rt, out, output);
+    // Writes what waits. Where that fails, nothing more is written.
+    pub fn flush(&mut self, rt: &(impl Print + Eprint))
+        ensures emptied { Emptied self.old self.new }
+        ensures kept { self.new.buffer.now ≡ self.old.buffer.now }
+    {
+        if self.failed {
+            return;
+        }
+        self.failed = self.write(rt);
+        self.waiting = 0;
     }
-    if output.len() - waiting < needed {
-        return written(rt, out, output);
-    }
-    out
-}
 
-// Puts a text behind what waits, and writes that first where there is no room for a text's 64 bytes.
-pub fn say(rt: &(impl Print + Eprint), out: Out, text: Text, output: &mut [u8]) -> Out
-    ensures { result.waiting ≤ length output.old }
-{
-    let ready = with_room(rt, out, 64, output);
-    let waiting = ready.waiting.min(output.len());
-    Out {
-        waiting: put(output, waiting, text),
-        failed: ready.failed,
+    // Writes what waits where fewer than `needed` places are left behind it.
+    #[tactic(auto, using(crate::proofs::Laws::kept_none, crate::proofs::Laws::kept_all))]
+    pub fn make_room(&mut self, rt: &(impl Print + Eprint), needed: usize)
+        ensures roomy { Roomy self.old needed self.new }
+        ensures kept { self.new.buffer.now ≡ self.old.buffer.now }
+    {
+        let room = self.buffer.len();
+        if room < self.waiting || room - self.waiting < needed {
+            self.flush(rt);
+        }
+    }
+
+    // Puts a text behind the bytes that wait, as far as there is room.
+    pub fn put(&mut self, text: Text)
+        requires { self.old.waiting ≤ length self.old.buffer.now }
+        ensures waiting { (self.old.waiting ≤ self.new.waiting) × (self.new.waiting ≤ length self.old.buffer.now) }
+        ensures len { length self.new.buffer.now ≡ length self.old.buffer.now }
+        ensures failed { self.new.failed ≡ self.old.failed }
+    {
+        let from = self.waiting;
+        let end = from + text.count.min(64).min(self.buffer.len() - from);
+        self.buffer[from..end].copy_from_slice(&text.bytes[..end - from]);
+        self.waiting = end;
+    }
+
+    // Puts a text behind what waits, and writes that first where there is no room for a text's 64 bytes.
+    pub fn say(&mut self, rt: &(impl Print + Eprint), text: Text)
+        ensures waiting { self.new.waiting ≤ length self.old.buffer.now }
+        ensures len { length self.new.buffer.now ≡ length self.old.buffer.now }
+    {
+        self.make_room(rt, 64);
+        self.waiting = self.waiting.min(self.buffer.len());
+        self.put(text);
     }
 }

@@ -13,7 +13,6 @@ start_of mode =
       line = no_line;
       number = 1;
       halfwords = 0;
-      out = record { waiting = 0; failed = false };
       over = false;
       mode = mode;
       begun = false;
@@ -27,7 +26,6 @@ over_of r =
       line = r.line;
       number = r.number;
       halfwords = r.halfwords;
-      out = r.out;
       over = true;
       mode = r.mode;
       begun = r.begun;

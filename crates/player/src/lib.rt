@@ -3,89 +3,92 @@
 
 ghost use Rattle.std.specs.Prelude.{◌≡◌, false, length};
 
-use output::{Out, fail, large_buffer, written};
-use play::{Mode, Run, ended, over};
+use output::{Output, fail, large_buffer};
+use play::{Mode, Run};
 use script::NUMBERS;
-use std::io;
 use std::io::Read;
 
-// Plays the input, which may begin and end within a line.
-fn play_all(
-    rt: &(impl Print + Eprint),
+// How playing ended.
+#[derive(Clone, Copy)]
+pub struct Ended {
+    // How many bytes still wait to be written.
+    pub waiting: usize,
+    // Has reading or writing failed?
+    pub failed: bool,
+}
+
+// A run, the numbers of its line, the halfwords that wait, and its output.
+#[derive(Drop)]
+struct Player<'a> {
     run: Run,
-    given: &mut [u32; NUMBERS],
-    input: &[u8],
-    bus: &mut [u16],
-    output: &mut [u8],
-) -> Run {
-    let mut run = run;
-    let mut line = run.line;
-    for &byte in input {
-        if byte == b'\n' {
-            run = ended(rt, Run { line, ..run }, given, bus, output);
-            if run.over {
-                return run;
+    given: [u32; NUMBERS],
+    bus: [u16; 4096],
+    output: Output<'a>,
+}
+
+impl<'a> Player<'a> {
+    // The line under way has ended.
+    fn end_line(&mut self, rt: &(impl Print + Eprint)) {
+        self.run
+            .ended(rt, &mut self.given, &mut self.bus, &mut self.output);
+    }
+
+    // Plays the input, which may begin and end within a line.
+    fn play_all(&mut self, rt: &(impl Print + Eprint), input: &[u8]) {
+        for &byte in input {
+            if byte == b'\n' {
+                self.end_line(rt);
+                if self.run.over {
+                    return;
+                }
+            } else {
+                self.run.line.note(byte, &mut self.given);
+                self.run.line = self.run.line.take(byte);
             }
-            line = run.line;
-        } else {
-            line.note(byte, given);
-            line = line.take(byte);
         }
     }
-    Run { line, ..run }
-}
 
-// Nothing more can be read: the line under way is not played.
-fn broken(rt: &impl Eprint, run: Run, why: io::Error) -> Run {
-    let failed = fail(rt, "read", why);
-    Run {
-        out: Out { failed, ..run.out },
-        over: true,
-        ..run
-    }
-}
-
-// Reads once, plays what came and writes what waits then.
-fn turn(
-    rt: &(impl Input + Print + Eprint),
-    run: Run,
-    given: &mut [u32; NUMBERS],
-    bus: &mut [u16],
-    output: &mut [u8],
-) -> Run {
-    let mut input = large_buffer();
-    let n = match rt.reader().read(&mut input) {
-        Ok(n) => n,
-        Err(why) => return broken(rt, run, why),
-    };
-    if n == 0 {
-        return over(run);
-    }
-    let played = play_all(rt, run, given, &input[..n], bus, output);
-    let out = written(rt, played.out, output);
-    let after = Run { out, ..played };
-    if out.failed {
-        return over(after);
-    }
-    after
-}
-
-// A proved loop has to end, and nothing says that a script does. So the loop counts its turns, up to a number that no run reaches.
-fn turns(
-    rt: &(impl Input + Print + Eprint),
-    run: Run,
-    given: &mut [u32; NUMBERS],
-    bus: &mut [u16],
-    output: &mut [u8],
-) -> Run {
-    let mut run = run;
-    for _ in 0..u64::MAX {
-        run = turn(rt, run, given, bus, output);
-        if run.over {
-            return run;
+    // Reads once, plays what came and writes what waits then. Where nothing more can be read, the line under way is not played.
+    fn turn(&mut self, rt: &(impl Input + Print + Eprint)) {
+        let mut input = large_buffer();
+        match rt.reader().read(&mut input) {
+            Ok(0) => self.run.stop(),
+            Ok(n) => {
+                self.play_all(rt, &input[..n]);
+                self.output.flush(rt);
+                if self.output.failed {
+                    self.run.stop();
+                }
+            }
+            Err(why) => {
+                self.output.failed = fail(rt, "read", why);
+                self.run.stop();
+            }
         }
     }
-    run
+
+    // A proved loop has to end, and nothing says that a script does. So the loop counts its turns, up to a number that no run reaches.
+    fn turns(&mut self, rt: &(impl Input + Print + Eprint)) {
+        for _ in 0..u64::MAX {
+            self.turn(rt);
+            if self.run.over {
+                return;
+            }
+        }
+    }
+
+    // Plays all of it.
+    fn play(&mut self, rt: &(impl Input + Print + Eprint))
+        ensures { self.new.output.failed ≡ false → self.new.output.waiting ≡ 0 }
+    {
+        self.turns(rt);
+        if !self.output.failed {
+            // A last line without a line feed counts. After a tape's end none is under way.
+            self.end_line(rt);
+            self.run.finished(rt, &mut self.output);
+            self.output.flush(rt);
+        }
+    }
 }
 
 // Room for the halfwords that wait.
@@ -96,18 +99,19 @@ fn no_halfwords() -> [u16; 4096]
 }
 
 // Plays all of it. Unless reading or writing has failed, nothing waits to be written at the end.
-pub fn play_script(rt: &(impl Input + Print + Eprint), mode: Mode) -> Out
+pub fn play_script(rt: &(impl Input + Print + Eprint), mode: Mode) -> Ended
     ensures { result.failed ≡ false → result.waiting ≡ 0 }
 {
-    let mut given = [0; NUMBERS];
-    let mut bus = no_halfwords();
-    let mut output = large_buffer();
-    let run = turns(rt, play::start(mode), &mut given, &mut bus, &mut output);
-    if run.out.failed {
-        return run.out;
+    let mut buffer = large_buffer();
+    let mut player = Player {
+        run: play::start(mode),
+        given: [0; NUMBERS],
+        bus: no_halfwords(),
+        output: Output::new(&mut buffer),
+    };
+    player.play(rt);
+    Ended {
+        waiting: player.output.waiting,
+        failed: player.output.failed,
     }
-    // A last line without a line feed counts. After a tape's end none is under way.
-    let last = ended(rt, run, &mut given, &mut bus, &mut output);
-    let out = play::finished(rt, last, &mut output);
-    written(rt, out, &output)
 }

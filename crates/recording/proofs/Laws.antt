@@ -11,7 +11,6 @@ use lib.Seq.{length-take-le, take-append_seam, take-append-add}
 use Rattle.std.specs.Prelude.{Result, Ok, Err}
 use Rattle.std.specs.Result.{result_unwrap_or}
 use Rattle.device.proofs.Tests.{if_both}
-use Rattle.output.specs.declared.Out.{Out}
 use Rattle.output.specs.Waiting.{kept_of}
 use Rattle.output.proofs.Laws.{kept_room}
 use Rattle.packing.specs.Packing.{command_in}
@@ -53,12 +52,12 @@ behind w before piece later rest h =
     ∙ ap (λ (bytes : List ℕ). take w before ++ bytes) (rw append_assoc (take-append_seam piece (later ++ rest)))
 
 -- the part of the buffer that is lent
-module _ (out : Out) (w : ℕ) (before : List ℕ) (room : 24579 ≤ length before) (k : w ≡ kept_of out 24579 (length before)) where
+module _ (held : ℕ) (w : ℕ) (before : List ℕ) (room : 24579 ≤ length before) (k : w ≡ kept_of held 24579 (length before)) where
   abbrev lent : List ℕ
   lent = take (length before - w) (drop w before)
 
   inside : w + 24579 ≤ length before
-  inside = rw k (kept_room out 24579 (length before) room)
+  inside = rw k (kept_room held 24579 (length before) room)
 
   lent_length : length lent ≡ length before - w
   lent_length = length-take-le (length before - w) (drop w before) (simp length-drop (omega arith))
@@ -66,7 +65,7 @@ module _ (out : Out) (w : ℕ) (before : List ℕ) (room : 24579 ≤ length befo
   fits : (bytes : List ℕ) → length bytes ≤ 24579 → length bytes ≤ length lent
   fits bytes h = omega (arith, inside, lent_length)
 
-  put : (bytes later rest : List ℕ) → take (w + length bytes) (take w before ++ ((bytes ++ later) ++ rest)) ≡ kept_in out before ++ bytes
+  put : (bytes later rest : List ℕ) → take (w + length bytes) (take w before ++ ((bytes ++ later) ++ rest)) ≡ kept_in held before ++ bytes
   put bytes later rest = rw (← k) (behind w before bytes later rest (omega (arith, inside)))
 
 -- What a call answers, or where it is refused no bytes and the NOPs that waited, is what it gives.
@@ -87,30 +86,30 @@ told_end (Err why) bytes = (refl, refl)
 
 -- the records of a row
 module _
-    (out : Out) (n w : ℕ) (words before last rest : List ℕ) (l : Lent words before) (k : w ≡ kept_of out 24579 (length before))
+    (held : ℕ) (n w : ℕ) (words before last rest : List ℕ) (l : Lent words before) (k : w ≡ kept_of held 24579 (length before))
     (r : Result Extended WriteError) {m : Extended} (u : m ≡ more_of n r)
-    (e : extending_in n r last ≡ extended_of n words (lent out w before l.room k)) where
-  gives : extending_in n r last ≡ gone_on n words (lent out w before l.room k)
-  gives = e ∙ extended n words (lent out w before l.room k) l.pack (fits out w before l.room k (piece_of n (slots_in words)).bytes (piece_room n words l.few))
+    (e : extending_in n r last ≡ extended_of n words (lent held w before l.room k)) where
+  gives : extending_in n r last ≡ gone_on n words (lent held w before l.room k)
+  gives = e ∙ extended n words (lent held w before l.room k) l.pack (fits held w before l.room k (piece_of n (slots_in words)).bytes (piece_room n words l.few))
 
-  pub added_bytes : take (w + m.length) (take w before ++ (last ++ rest)) ≡ kept_in out before ++ (piece_of n (slots_in words)).bytes
+  pub added_bytes : take (w + m.length) (take w before ++ (last ++ rest)) ≡ kept_in held before ++ (piece_of n (slots_in words)).bytes
   added_bytes =
       let t = told n r last in
-      rw (u, t.0 ∙ ap (λ (x : Extending). x.outcome.length) gives, t.1 ∙ ap (λ (x : Extending). x.outcome.bytes) gives) (put out w before l.room k _ _ rest)
+      rw (u, t.0 ∙ ap (λ (x : Extending). x.outcome.length) gives, t.1 ∙ ap (λ (x : Extending). x.outcome.bytes) gives) (put held w before l.room k _ _ rest)
 
   pub added_pending : m.pending ≡ (piece_of n (slots_in words)).pending
   added_pending = ap (λ (x : Extended). x.pending) u ∙ (told n r last).2 ∙ ap (λ (x : Extending). x.pending) gives
 
 -- the record of the NOPs that wait at the end
 module _
-    (out : Out) (n w : ℕ) (before last rest : List ℕ) (room : 24579 ≤ length before) (k : w ≡ kept_of out 24579 (length before))
+    (held : ℕ) (n w : ℕ) (before last rest : List ℕ) (room : 24579 ≤ length before) (k : w ≡ kept_of held 24579 (length before))
     (r : Result ℕ WriteError) {m : ℕ} (u : m ≡ result_unwrap_or r 0)
-    (e : outcome_in r last ≡ written_of n [] (lent out w before room k)) where
-  pub ended_bytes : take (w + m) (take w before ++ (last ++ rest)) ≡ kept_in out before ++ run_bytes n
+    (e : outcome_in r last ≡ written_of n [] (lent held w before room k)) where
+  pub ended_bytes : take (w + m) (take w before ++ (last ++ rest)) ≡ kept_in held before ++ run_bytes n
   ended_bytes =
-      let z = e ∙ finished n (lent out w before room k) (fits out w before room k (run_bytes n) (omega (arith, short_run n))) in
+      let z = e ∙ finished n (lent held w before room k) (fits held w before room k (run_bytes n) (omega (arith, short_run n))) in
       let t = told_end r last in
-      rw (u, t.0 ∙ ap (λ (x : Outcome). x.length) z, t.1 ∙ ap (λ (x : Outcome). x.bytes) z) (put out w before room k _ _ rest)
+      rw (u, t.0 ∙ ap (λ (x : Outcome). x.length) z, t.1 ∙ ap (λ (x : Outcome). x.bytes) z) (put held w before room k _ _ rest)
 
 -- What was written is no longer than what was lent.
 module _ (lent : List ℕ) where

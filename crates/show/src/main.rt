@@ -4,7 +4,7 @@
 ghost use Rattle.std.specs.Prelude.{◌+◌, ◌≤◌, length, IfOk};
 
 use answer::Answer;
-use output::{Out, fail, large_buffer, say};
+use output::{Output, fail, large_buffer};
 use std::io;
 use std::io::Read;
 use tape::{Item, Refusal};
@@ -23,7 +23,6 @@ struct Shown {
     run: u16,
     // How many slots there were.
     slots: u64,
-    out: Out,
     // Is there nothing more to read?
     over: bool,
 }
@@ -46,35 +45,6 @@ fn last_line(slots: u64, base: u64, item: Item) -> Text {
         }
         Item::Command(_) | Item::Run(_) => Text::empty(),
     }
-}
-
-// Says a record.
-fn told(rt: &(impl Print + Eprint), before: Shown, item: Item, output: &mut [u8]) -> Shown {
-    let slot = std::num::wrapping_add_u64(before.slots, 1);
-    Shown {
-        slots: std::num::wrapping_add_u64(before.slots, tape_scan::slots(item)),
-        out: say(rt, before.out, record_line(slot, item), output),
-        ..before
-    }
-}
-
-// Says the records of a part of the tape, up to its end or a refused one: those leave the reader where it is.
-fn records(rt: &(impl Print + Eprint), before: Shown, part: &[u8], output: &mut [u8]) -> Shown {
-    let mut shown = before;
-    let mut at = 0;
-    while at < part.len() {
-        let found = read_at(part, at, shown.run);
-        if found.at <= at {
-            shown.at = at;
-            return shown;
-        }
-        let item = found.item;
-        shown = told(rt, shown, item, output);
-        shown.run = found.before;
-        at = found.at;
-    }
-    shown.at = at;
-    shown
 }
 
 // Could what is found at the end of a part be another thing where the tape goes on?
@@ -106,63 +76,6 @@ fn explained(rt: &impl Eprint, base: u64, part: &[u8], item: Item) {
     }
 }
 
-// The tape has no more to show: says what stands at the reader's place.
-fn ended(rt: &(impl Print + Eprint), before: Shown, part: &[u8], output: &mut [u8]) -> Shown {
-    let found = read_at(part, before.at, before.run);
-    let item = found.item;
-    let last = say(
-        rt,
-        before.out,
-        last_line(before.slots, before.base, item),
-        output,
-    );
-    let out = output::written(rt, last, output);
-    explained(rt, before.base, part, item);
-    Shown {
-        out,
-        over: true,
-        ..before
-    }
-}
-
-// The part of the tape in the buffer has no whole record any more: its rest begins the next part.
-fn kept(rt: &(impl Print + Eprint), before: Shown, part: &mut [u8], output: &[u8]) -> Shown {
-    let at = before.at.min(part.len());
-    part.copy_within(at.., 0);
-    let out = output::written(rt, before.out, output);
-    Shown {
-        base: std::num::wrapping_add_u64(before.base, at as u64),
-        held: part.len() - at,
-        at: 0,
-        out,
-        over: out.failed,
-        ..before
-    }
-}
-
-// Shows a part of the tape.
-fn part_shown(
-    rt: &(impl Print + Eprint),
-    before: Shown,
-    part: &mut [u8],
-    output: &mut [u8],
-) -> Shown {
-    let shown = records(rt, before, part, output);
-    if waits(read_at(part, shown.at, shown.run).item) {
-        return kept(rt, shown, part, output);
-    }
-    ended(rt, shown, part, output)
-}
-
-// Nothing more can be read.
-fn broken(rt: &impl Eprint, before: Shown, why: io::Error) -> Shown {
-    fail(rt, "read", why);
-    Shown {
-        over: true,
-        ..before
-    }
-}
-
 // Reads once, behind the bytes that wait.
 fn fetched(rt: &impl Input, input: &mut [u8], held: usize) -> io::Result<usize>
     requires { held ≤ length input.old }
@@ -171,51 +84,99 @@ fn fetched(rt: &impl Input, input: &mut [u8], held: usize) -> io::Result<usize>
     rt.reader().read(&mut input[held..])
 }
 
-// Reads once, and shows what came.
-fn turn(
-    rt: &(impl Input + Print + Eprint),
-    before: Shown,
-    input: &mut [u8],
-    output: &mut [u8],
-) -> Shown {
-    let held = before.held.min(input.len());
-    let got = match fetched(rt, input, held) {
-        Ok(got) => got,
-        Err(why) => return broken(rt, before, why),
-    };
-    if got == 0 {
-        return ended(rt, before, &input[..held], output);
+impl Shown {
+    // Says a record.
+    fn told(&mut self, rt: &(impl Print + Eprint), item: Item, output: &mut Output) {
+        let slot = std::num::wrapping_add_u64(self.slots, 1);
+        output.say(rt, record_line(slot, item));
+        self.slots = std::num::wrapping_add_u64(self.slots, tape_scan::slots(item));
     }
-    let n = (held + got).min(input.len());
-    part_shown(rt, before, &mut input[..n], output)
-}
 
-// A proved loop has to end, and nothing says that a tape does. So the loop has a number of turns that no run uses up.
-fn turns(rt: &(impl Input + Print + Eprint), before: Shown, input: &mut [u8], output: &mut [u8]) {
-    let mut shown = before;
-    for _ in 0..u64::MAX {
-        shown = turn(rt, shown, input, output);
-        if shown.over {
-            return;
+    // Says the records of a part of the tape, up to its end or a refused one: those leave the reader where it is.
+    fn records(&mut self, rt: &(impl Print + Eprint), part: &[u8], output: &mut Output) {
+        let mut at = 0;
+        while at < part.len() {
+            let found = read_at(part, at, self.run);
+            if found.at <= at {
+                break;
+            }
+            self.told(rt, found.item, output);
+            self.run = found.before;
+            at = found.at;
+        }
+        self.at = at;
+    }
+
+    // The tape has no more to show: says what stands at the reader's place.
+    fn ended(&mut self, rt: &(impl Print + Eprint), part: &[u8], output: &mut Output) {
+        let item = read_at(part, self.at, self.run).item;
+        output.say(rt, last_line(self.slots, self.base, item));
+        output.flush(rt);
+        explained(rt, self.base, part, item);
+        self.over = true;
+    }
+
+    // The part of the tape in the buffer has no whole record any more: its rest begins the next part.
+    fn kept(&mut self, rt: &(impl Print + Eprint), part: &mut [u8], output: &mut Output) {
+        let at = self.at.min(part.len());
+        part.copy_within(at.., 0);
+        output.flush(rt);
+        self.base = std::num::wrapping_add_u64(self.base, at as u64);
+        self.held = part.len() - at;
+        self.at = 0;
+        self.over = output.failed;
+    }
+
+    // Shows a part of the tape.
+    fn part_shown(&mut self, rt: &(impl Print + Eprint), part: &mut [u8], output: &mut Output) {
+        self.records(rt, part, output);
+        if waits(read_at(part, self.at, self.run).item) {
+            self.kept(rt, part, output);
+        } else {
+            self.ended(rt, part, output);
+        }
+    }
+
+    // Reads once, and shows what came.
+    fn turn(&mut self, rt: &(impl Input + Print + Eprint), input: &mut [u8], output: &mut Output) {
+        let held = self.held.min(input.len());
+        match fetched(rt, input, held) {
+            Ok(0) => self.ended(rt, &input[..held], output),
+            Ok(got) => {
+                let n = (held + got).min(input.len());
+                self.part_shown(rt, &mut input[..n], output);
+            }
+            Err(why) => {
+                fail(rt, "read", why);
+                self.over = true;
+            }
+        }
+    }
+
+    // A proved loop has to end, and nothing says that a tape does. So the loop has a number of turns that no run uses up.
+    fn turns(&mut self, rt: &(impl Input + Print + Eprint), input: &mut [u8], output: &mut Output) {
+        for _ in 0..u64::MAX {
+            self.turn(rt, input, output);
+            if self.over {
+                return;
+            }
         }
     }
 }
 
 fn start() -> Shown {
-    let out = output::nothing();
     Shown {
         base: 0,
         held: 0,
         at: 0,
         run: 0,
         slots: 0,
-        out,
         over: false,
     }
 }
 
 fn main(rt: HostRuntime) {
     let mut input = large_buffer();
-    let mut output = large_buffer();
-    turns(&rt, start(), &mut input, &mut output);
+    let mut buffer = large_buffer();
+    start().turns(&rt, &mut input, &mut Output::new(&mut buffer));
 }

@@ -4,4 +4,4 @@ use Rattle.calls.proofs.beyond.Given as goal
 
 abbrev pub invariant-loop-word : goal.invariant-loop-word
 invariant-loop-word g l =
-    (length l.output ≡ length l.initial.output) × (l.out.waiting ≤ length l.initial.output)
+    (length l.output.buffer.now ≡ length l.initial.output.buffer.now) × (l.output.waiting ≤ length l.initial.output.buffer.now)

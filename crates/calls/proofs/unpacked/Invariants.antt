@@ -4,4 +4,4 @@ use Rattle.calls.proofs.unpacked.Given as goal
 
 abbrev pub invariant-loop-command : goal.invariant-loop-command
 invariant-loop-command g l =
-    (length l.output ≡ length l.initial.output) × (l.out.waiting ≤ length l.initial.output)
+    (length l.output.buffer.now ≡ length l.initial.output.buffer.now) × (l.output.waiting ≤ length l.initial.output.buffer.now)
