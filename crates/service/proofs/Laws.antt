@@ -1,6 +1,6 @@
 -- A NOP is always legal, so its plan is carried out; and a plan carried out is its command if that is legal, otherwise NOP, and its outcome.
 use Prim.Native.Nat.{ℕ, ◌-◌}
-use mathlib.Core.Path.{◌≡◌, refl, ◌∙◌}
+use mathlib.Core.Path.{◌≡◌, refl}
 use mathlib.Core.Bool.{Bool, true, false, cond}
 use lib.Dec.{leb}
 use Rattle.config.specs.declared.Config.{Config}
@@ -8,16 +8,11 @@ use Rattle.command.specs.declared.Command.{Command}
 use Rattle.command.specs.declared.Command.TheVariants.{Nop}
 use Rattle.device.specs.View.{View}
 use Rattle.device.specs.Rules.{requirements, legal_of, carried_of}
-use Rattle.ages.specs.declared.Past.{Past}
-use Rattle.ages.specs.Ages.{by_ages}
-use Rattle.aging.specs.Noted.{noted_of}
-use Rattle.aging.proofs.Slot.{noted_nop}
 use Rattle.plan.specs.declared.Action.{Action}
 use Rattle.plan.specs.declared.Action.TheVariants.{CasLatency}
 use Rattle.plan.specs.Plan.{Outcome, Plan, outcome_of, tries, rest, taken_plan, latency_plan}
 use Rattle.queue.specs.declared.Request.{Request}
-use Rattle.service.specs.declared.Carried.{Carried}
-use Rattle.service.specs.Serve.{carried_with, rest_of, conducted_of, taken_of, latency_of, Conducted}
+use Rattle.service.specs.Serve.{carried_with, rest_of, conducted_of, taken_of, latency_of}
 
 module _ (c : Config) (v : View) where
   pub rest_conducts : (a : Action) → conducted_of c v (rest a) ≡ rest_of a

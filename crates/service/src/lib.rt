@@ -1,6 +1,6 @@
 // Owns the code of a slot's plan (document 01, "Start" and "A service slot"; `plan` has the rules): the action's next command if it is legal,
 // otherwise NOP, and what follows. What the command starts is noted in the past at once.
-#![tactic(auto)]
+#![tactic(auto, using(crate::proofs::Laws::sent, crate::proofs::Laws::refused, aging::proofs::Slot::noted_nop), unfolding(plan::specs::Plan::tries))]
 
 ghost use Rattle.std.specs.Prelude.{◌-◌, ◌≡◌};
 ghost use Rattle.config.specs.Accepted.{Shaped};
@@ -194,7 +194,6 @@ fn transfer(c: Config, past: &mut Past, queue: &Queue, i: u16, cell: Cell) -> Ca
 }
 
 // The PRE for the request at place i.
-#[tactic(auto, using(crate::proofs::Laws::sent, crate::proofs::Laws::refused, aging::proofs::Slot::noted_nop), unfolding(plan::specs::Plan::tries))]
 fn precharge(c: Config, past: &mut Past, i: u16, bank: Bank) -> Carried
     requires { Shaped c.geometry }
     ensures { Conducted c past.old past.new (tries (Pre bank) (Access i) (Access i)) result }
@@ -207,7 +206,6 @@ fn precharge(c: Config, past: &mut Past, i: u16, bank: Bank) -> Carried
 }
 
 // The ACT for the request at place i.
-#[tactic(auto, using(crate::proofs::Laws::sent, crate::proofs::Laws::refused, aging::proofs::Slot::noted_nop), unfolding(plan::specs::Plan::tries))]
 fn activate(c: Config, past: &mut Past, i: u16, bank: Bank, row: Row) -> Carried
     requires { Shaped c.geometry }
     ensures { Conducted c past.old past.new (tries (Act bank row) (Access i) (Access i)) result }
@@ -247,7 +245,6 @@ fn access(c: Config, past: &mut Past, queue: &Queue, i: u16) -> Carried
 }
 
 // DEAC, and then `next`; until it is legal, `stays`.
-#[tactic(auto, using(crate::proofs::Laws::sent, crate::proofs::Laws::refused, aging::proofs::Slot::noted_nop), unfolding(plan::specs::Plan::tries))]
 fn precharge_all(c: Config, past: &mut Past, stays: Action, next: Action) -> Carried
     ensures { Conducted c past.old past.new (tries Deac stays next) result }
 {
@@ -259,7 +256,6 @@ fn precharge_all(c: Config, past: &mut Past, stays: Action, next: Action) -> Car
 }
 
 // One of the initialisation's REFRs, of which so many are left.
-#[tactic(auto, using(crate::proofs::Laws::sent, crate::proofs::Laws::refused, aging::proofs::Slot::noted_nop), unfolding(plan::specs::Plan::tries))]
 fn init_refresh(c: Config, past: &mut Past, n: u16) -> Carried
     ensures { Conducted c past.old past.new (tries Refr (InitRefresh n) (after_init_refresh n)) result }
 {
@@ -289,7 +285,6 @@ fn refresh_slot(c: Config, past: &mut Past) -> Carried
 }
 
 // The MRS of the initialisation.
-#[tactic(auto, using(crate::proofs::Laws::sent, crate::proofs::Laws::refused, aging::proofs::Slot::noted_nop), unfolding(plan::specs::Plan::tries))]
 fn mode_slot(c: Config, past: &mut Past) -> Carried
     ensures { Conducted c past.old past.new (tries (Mrs (mode_word c)) InitMode InitSettle) result }
 {
