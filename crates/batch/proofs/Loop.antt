@@ -7,7 +7,6 @@ use lib.ListN.{length, take, drop, set, get_or, take-append-drop}
 use lib.Seq.{slice, slice_empty, slice-cons, take-suc-set, drop-set-lt, append_snoc}
 use Rattle.config.specs.declared.Config.{Config}
 use Rattle.ages.specs.declared.Past.{Past}
-use Rattle.ages.specs.Ages.{ages_after, sent_of}
 use Rattle.queue.specs.declared.Queue.{Queue}
 use Rattle.refresh.specs.declared.Counters.{Counters}
 use Rattle.plan.specs.declared.Control.{Control}

@@ -2,6 +2,7 @@
 use Prim.Native.Nat.{ℕ, ◌≤◌, ◌<◌, ◌%◌}
 use mathlib.Core.Path.{◌≡◌, refl}
 use mathlib.Core.Bool.{Bool, true, false, cond, ◌&&◌}
+use mathlib.Core.List.{List}
 use lib.Dec.{leb, eqb}
 use borrow.Author.Tests.{le-leb, leb-true, leb-false, eqb-true, eqb-false}
 use Rattle.config.specs.declared.Config.{Config}
@@ -12,7 +13,8 @@ use Rattle.address.proofs.Laws.{address_good}
 use Rattle.device.specs.View.{all_closed}
 use Rattle.device.proofs.Tests.{by_test, both}
 use Rattle.ages.specs.declared.Past.{Past}
-use Rattle.ages.specs.Ages.{row_at}
+use Rattle.ages.specs.Ages.{past_of, row_at}
+use Rattle.ages.proofs.Record.{closed_is}
 use Rattle.refresh.specs.declared.Counters.{Counters}
 use Rattle.refresh.specs.Counting.{sound_counters}
 use Rattle.refresh.proofs.Counts.{Bounded, sound_bounded, bounded_sound}
@@ -142,3 +144,16 @@ module _ (b : Bool) (c : Config) (p : Past) (n : Counters) (x : Control) (count 
   pub number_parts : b ≡ true → {s t : Bool} → s ≡ accepted_of c → t ≡ state_by c p n x count → record_number_by b c p n x count ≡ cond (s && t) 0 9
   unfolding record_number_by sound_by fit_by
   number_parts e f g = rw (e, f, g)
+
+-- The numbers look at no age, and at no row: whatever ages and rows a past with these open flags and this mode has, the numbers are the same.
+module _ (b : Bool) (c : Config) (p : Past) (n : Counters) (x : Control) (count : ℕ) (ages rows : List ℕ) where
+  abbrev other : Past
+  other = past_of ages p.opened rows p.programmed
+
+  pub any_ages_and_rows : record_number_by b c p n x count ≡ record_number_by b c other n x count
+  unfolding record_number_by sound_by fit_by state_by
+  any_ages_and_rows = rw (closed_is p.opened p.rows, closed_is p.opened rows)
+
+  pub any_ages_and_rows_for : (accepted address : ℕ) → request_number_by b c p n x count accepted address ≡ request_number_by b c other n x count accepted address
+  unfolding request_number_by
+  any_ages_and_rows_for accepted address = rw any_ages_and_rows

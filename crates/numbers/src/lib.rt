@@ -1,5 +1,5 @@
 // Owns the refusals that a machine's parts decide: Unsound, with the soundness behind it, and Blank; and for a request four more. The tests look at parts of the
-// machine, so that the machine is not copied for them.
+// machine, so that the machine is not copied for them; of the past only at the open flags and at the mode: `any_ages_and_rows` of proofs/Laws.antt says so.
 #![tactic(auto)]
 
 ghost use Rattle.std.specs.Prelude.{◌≡◌, Bool};

@@ -126,7 +126,8 @@ fn after_write(rt: &impl Print, m: Machine) -> io::Result<Machine> {
     let answer = m.request(Kind::Write, 0, HALFWORD);
     println!(rt;
         "write to address 0, halfword {HALFWORD}: answer {}, request {}",
-        number_in(&answer.answer), answer.answer.unwrap_or(0)
+        number_in(&answer.answer),
+        answer.answer.unwrap_or(0)
     )?;
     Ok(answer.machine)
 }
@@ -135,7 +136,8 @@ fn after_read(rt: &impl Print, m: Machine) -> io::Result<Machine> {
     let answer = m.request(Kind::Read, 0, 0);
     println!(rt;
         "read of address 0: answer {}, request {}",
-        number_in(&answer.answer), answer.answer.unwrap_or(0)
+        number_in(&answer.answer),
+        answer.answer.unwrap_or(0)
     )?;
     Ok(answer.machine)
 }

@@ -40,7 +40,7 @@ fn apart(past: &Stamps, other: u8, own: u8, distance: u8) -> bool
     other == own || past.kept(other as usize, distance)
 }
 
-// R7, bank by bank. Here and below the four banks stand in a row: `(0..4).all(..)` is no plainer, and what proves by itself this way then needs a proof by hand.
+// R7, bank by bank. The four banks stand in a row, and so below: with `(0..4).all(..)` the proof of this one did not close.
 #[tactic(auto, using(crate::proofs::Hold::apart_is))]
 fn each_apart(c: Config, past: &Stamps, own: u8) -> bool
     ensures { result ≡ all_hold (R7 (by_stamps c past.now.last past.now.clock) own) }

@@ -1,19 +1,16 @@
 -- One slot on the machine's parts, as the code's contracts say it. Nothing here has to be believed: `slot_is` of sequencer/proofs/Laws.antt shows that it is
 -- the slot of `sequencer`.
-use Rattle.std.specs.Prelude.{ℕ, Bool, cond, List, eqb}
+use Rattle.std.specs.Prelude.{ℕ, cond, eqb}
 use Rattle.config.specs.declared.Config.{Config}
 use Rattle.command.specs.declared.Command.{Command}
 use Rattle.command.specs.declared.Command.TheVariants.{Nop}
 use Rattle.ages.specs.declared.Past.{Past}
 use Rattle.ages.specs.Ages.{by_ages, sent_of}
 use Rattle.queue.specs.declared.Queue.{Queue}
-use Rattle.queue.specs.Places.{queue_of}
 use Rattle.refresh.specs.declared.Counters.{Counters}
-use Rattle.plan.specs.declared.Action.{Action}
 use Rattle.plan.specs.declared.Control.{Control}
 use Rattle.plan.specs.declared.Report.{Report}
 use Rattle.plan.specs.declared.Report.TheVariants.{Nothing}
-use Rattle.plan.specs.Actions.{control_of}
 use Rattle.plan.specs.Slot.{Turn, turn_of}
 use Rattle.turn.specs.declared.Turned.{Turned}
 
