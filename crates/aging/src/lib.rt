@@ -21,7 +21,7 @@ fn aged(age: u8) -> u8
     age + 1
 }
 
-// A slot passes.
+// A slot passes. By index: after `iter_mut` a proof knows no element.
 #[tactic(auto, using(crate::proofs::Loop::changed_next, crate::proofs::Loop::changed_all, crate::proofs::Loop::changed_length), unfolding(crate::specs::Noted::elapsed_of))]
 pub fn elapse(past: &mut Past)
     ensures { past.new ≡ elapsed_of past.old }
