@@ -17,7 +17,7 @@ pub const CAP: u8 = 32;
 #[derive(Clone, Copy)]
 pub struct Past {
     pub ages: [u8; 16],
-    // Is the bank open, and with which row?
+    // Is the bank open, and which row was opened in it last? No Option: a closed bank keeps its row, as `sent_of` says.
     pub opened: [bool; 4],
     pub rows: [u16; 4],
     // Has an MRS been sent?

@@ -90,7 +90,7 @@ fn mix_item(digest: u32, item: Item) -> u32 {
     }
 }
 
-// Reads a tape. An end or a refusal leaves the reader where it is.
+// Reads a tape, by records, each as long as it is: no `for` counts them. An end or a refusal leaves the reader where it is.
 fn read_all(digest: u32, tape: &[u8]) -> u32 {
     let mut digest = digest;
     let mut at = 0;

@@ -80,7 +80,7 @@ fn ended(rt: &(impl Input + Eprint)) -> bool {
     }
 }
 
-// Reads until the input ends or the buffer is full, and answers how many bytes came. A read that fails ends it too: `ended` says why.
+// Reads until the input ends or the buffer is full, as many bytes in a turn as come (no `for` counts them), and answers how many came. A read that fails ends it too: `ended` says why.
 fn read_full(rt: &impl Input, input: &mut [u8]) -> usize
     ensures { result ≤ length input.old }
 {

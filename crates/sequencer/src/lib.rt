@@ -37,6 +37,7 @@ pub struct Machine {
     pub config: Config,
     pub counters: Counters,
     pub control: Control,
+    // With the configuration beside it, and no Option: `machine_with` names both, and the blank machine has `no_config`.
     pub configured: bool,
     // How many requests have been accepted.
     pub accepted: u32,

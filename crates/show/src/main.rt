@@ -92,7 +92,7 @@ impl Shown {
         self.slots = std::num::wrapping_add_u64(self.slots, tape_scan::slots(item));
     }
 
-    // Says the records of a part of the tape, up to its end or a refused one: those leave the reader where it is.
+    // Says the records of a part of the tape, up to its end or a refused one: those leave the reader where it is. By records, which no `for` counts.
     fn records(&mut self, rt: &(impl Print + Eprint), part: &[u8], output: &mut Output) {
         let mut at = 0;
         while at < part.len() {

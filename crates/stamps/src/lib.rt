@@ -21,6 +21,22 @@ pub struct Stamps {
     pub ghost far: { clock < 2 ^ 63 },
 }
 
+// Is a bank open? This and the next are asked of stamps alone: any will do, whatever the clock shows.
+#[tactic(auto, unfolding(crate::specs::Stamps::open_at))]
+pub fn is_open(last: &[u64; 16], b: usize) -> bool
+    requires { b < 4 }
+    ensures { result ≡ open_at last.now b }
+{
+    last[4 + b] < last[b]
+}
+
+// Has an MRS been sent?
+pub fn is_programmed(last: &[u64; 16]) -> bool
+    ensures { result ≡ ltb 0 (get_or last.now 9 0) }
+{
+    0 < last[9]
+}
+
 impl Stamps {
     // Before any command was sent.
     pub fn new() -> Stamps
@@ -56,20 +72,17 @@ impl Stamps {
         self.reached(self.last[i], distance)
     }
 
-    // Is a bank open?
-    #[tactic(auto, unfolding(crate::specs::Stamps::open_at))]
     pub fn is_open(&self, b: usize) -> bool
         requires { b < 4 }
         ensures { result ≡ open_at self.now.last b }
     {
-        self.last[4 + b] < self.last[b]
+        is_open(&self.last, b)
     }
 
-    // Has an MRS been sent?
     pub fn is_programmed(&self) -> bool
         ensures { result ≡ ltb 0 (get_or self.now.last 9 0) }
     {
-        0 < self.last[9]
+        is_programmed(&self.last)
     }
 
     // What each command leaves, in the slot that the clock shows. One function for each and none for any: the judge makes no `Command` of a record (docs/PERFORMANCE.md).

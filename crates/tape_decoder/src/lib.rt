@@ -10,7 +10,7 @@ use address::{Bank, Column, Row};
 use command::Command;
 use tape::{Item, Refusal};
 
-// What is read at a place, and afterwards the place and the count of the run just before it, else 0.
+// What is read at a place, and afterwards the place and the count of the run just before it, else 0: `step_of` takes it so.
 #[derive(Clone, Copy)]
 pub struct Found {
     pub item: Item,

@@ -35,6 +35,7 @@ pub fn scan(tape: &[u8]) -> Result<u64, Refused>
     let mut at = 0;
     let mut run = 0;
     let mut count = 0;
+    // By records, each as long as it is: no `for` counts them.
     while at < tape.len() {
         let found = read_at(tape, at, run);
         let item = found.item;

@@ -20,7 +20,7 @@ pub fn field(word: u32, low: u32, width: u32) -> u32
     word / power(low) % power(width)
 }
 
-// Is a bit of CFG set that no field names?
+// Is a bit of CFG set that no field names? A function for each word, as the definitions have one: fields in a list to go through would be no plainer.
 fn cfg_reserved(w: u32) -> bool
     ensures { result ≡ any_set cfg_reserved w }
 {
