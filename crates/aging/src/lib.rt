@@ -10,7 +10,7 @@ use address::{Bank, Column, Row};
 use ages::{CAP, Past};
 use command::Command;
 
-// An age after a slot whose command doesn't start its distances.
+// An age after a slot whose command doesn't start its distances. A test and no `min`: one more than an age need not fit.
 #[tactic(auto, unfolding(ages::specs::Ages::aged_of))]
 fn aged(age: u8) -> u8
     ensures { result ≡ aged_of false age }
