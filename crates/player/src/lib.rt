@@ -33,19 +33,23 @@ impl<'a> Player<'a> {
             .ended(rt, &mut self.given, &mut self.bus, &mut self.output);
     }
 
-    // Plays the input, which may begin and end within a line.
+    // Plays the input, which may begin and end within a line. The line under way is a local, which the compiler keeps in registers.
     fn play_all(&mut self, rt: &(impl Print + Eprint), input: &[u8]) {
+        let mut line = self.run.line;
         for &byte in input {
             if byte == b'\n' {
+                self.run.line = line;
                 self.end_line(rt);
                 if self.run.over {
                     return;
                 }
+                line = self.run.line;
             } else {
-                self.run.line.note(byte, &mut self.given);
-                self.run.line = self.run.line.take(byte);
+                line.note(byte, &mut self.given);
+                line = line.take(byte);
             }
         }
+        self.run.line = line;
     }
 
     // Reads once, plays what came and writes what waits then. Where nothing more can be read, the line under way is not played.

@@ -57,14 +57,14 @@ pub const NUMBERS: usize = 126;
 // The words of a line, as far as they have been read. Its numbers are kept beside them, in an array that is lent (docs/DECISIONS.md).
 #[derive(Clone, Copy)]
 pub struct Words {
-    // Is it known that the line is no call?
-    wrong: bool,
     // The first word, in the form that Text::word takes.
     name: u64,
     // Which word is under way, 0 for the name.
     at: usize,
     // The number under way.
     number: Number,
+    // Is it known that the line is no call? The flags stand together: a gap behind each would be copied for every byte.
+    wrong: bool,
     // Is one of the numbers before it more than a halfword?
     wide: bool,
 }

@@ -10,7 +10,6 @@ ghost use Rattle.sequencer.specs.Answers.{configured_in, requested_in, slot_in, 
 ghost use Rattle.sequencer.specs.Calls.{
   configured_by,
   configure_of,
-  record_number_of,
   request_number_of,
   halfword_for,
   queued_request,
@@ -217,30 +216,16 @@ impl Machine {
         }
     }
 
-    // What every call tests first: is the record sound, and configured?
-    fn check(&self) -> Result<(), Refusal>
-        ensures { number_in result ≡ record_number_of self.now }
-    {
-        numbers::check_record(
-            self.configured,
-            config::accepted(self.config),
-            self.config,
-            &self.past,
-            self.counters,
-            self.control.action,
-            self.queue.count,
-        )
-    }
-
     // Hands in a request of either kind; a halfword given with a read is ignored.
     pub fn request(self, kind: Kind, address: u32, halfword: u16) -> Answered<u32>
         ensures { requested_in result ≡ request_of self kind address halfword }
     {
+        let past = self.past;
         let tested = numbers::check_request(
             self.configured,
             config::accepted(self.config),
             self.config,
-            &self.past,
+            &past,
             self.counters,
             self.control.action,
             self.queue.count,
@@ -255,12 +240,20 @@ impl Machine {
     pub fn slot(self, bus: u16) -> Slot
         ensures { slot_in result ≡ slot_of self bus }
     {
-        let tested = self.check();
         // The parts as locals, and the machine built once, at the end, for a refused slot too: lent as its fields, the whole machine would be copied.
         let mut past = self.past;
         let mut counters = self.counters;
         let mut control = self.control;
         let mut queue = self.queue;
+        let tested = numbers::check_record(
+            self.configured,
+            config::accepted(self.config),
+            self.config,
+            &past,
+            counters,
+            control.action,
+            queue.count,
+        );
         let turned = turn::turn(
             refusal::number_in(&tested),
             self.config,
@@ -290,12 +283,20 @@ impl Machine {
     pub fn slots(self, bus: &[u16], commands: &mut [u64], reports: &mut [u64]) -> Answered<usize>
         ensures { gathered (slots_in result) commands.new reports.new ≡ many_slots_of self bus.now commands.old reports.old }
     {
-        let tested = self.check();
-        let count = room(tested, bus.len(), commands.len(), reports.len());
         let mut past = self.past;
         let mut counters = self.counters;
         let mut control = self.control;
         let mut queue = self.queue;
+        let tested = numbers::check_record(
+            self.configured,
+            config::accepted(self.config),
+            self.config,
+            &past,
+            counters,
+            control.action,
+            queue.count,
+        );
+        let count = room(tested, bus.len(), commands.len(), reports.len());
         batch::run(
             count,
             self.config,
@@ -324,7 +325,16 @@ impl Machine {
     pub fn backlog(self) -> Result<u8, Refusal>
         ensures { reading_in result ≡ backlog_of self }
     {
-        self.check()?;
+        let past = self.past;
+        numbers::check_record(
+            self.configured,
+            config::accepted(self.config),
+            self.config,
+            &past,
+            self.counters,
+            self.control.action,
+            self.queue.count,
+        )?;
         Ok(self.counters.backlog)
     }
 }

@@ -6,4 +6,5 @@ use Rattle.sequencer.proofs.Machine.slots.Goals as goal
 
 pub run-requires-clause-shaped : goal.run-requires-clause-shaped
 run-requires-clause-shaped c =
-    let shows = room_shows _ _ _ _ c.room-count.ensures in λ h. (record_facts c.args.self (sym c.check-tested.ensures ∙ shows.0 h)).accepted.shaped
+    let m = c.args.self in
+    let shows = room_shows _ _ _ _ c.room-count.ensures in λ h. (record_facts m (sym (c.check_record-tested.ensures m.control.must) ∙ shows.0 h)).accepted.shaped
