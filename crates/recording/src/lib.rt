@@ -14,6 +14,7 @@ const ROOM: usize = 24579;
 pub fn add(rt: &(impl Print + Eprint), output: &mut Output, pending: u16, words: &[u64]) -> u16
     ensures added { Lent words.now output.old.buffer.now → output.new.failed ≡ false → Added output.old pending words.now output.new result }
     ensures len { length output.new.buffer.now ≡ length output.old.buffer.now }
+    ensures lent { output.new.buffer.ghost_name ≡ output.old.buffer.ghost_name }
 {
     output.make_room(rt, ROOM);
     let buffer = &mut *output.buffer;
@@ -31,6 +32,7 @@ pub fn add(rt: &(impl Print + Eprint), output: &mut Output, pending: u16, words:
 pub fn end(rt: &(impl Print + Eprint), output: &mut Output, pending: u16)
     ensures ended { 24579 ≤ length output.old.buffer.now → output.new.failed ≡ false → Ended output.old pending output.new }
     ensures len { length output.new.buffer.now ≡ length output.old.buffer.now }
+    ensures lent { output.new.buffer.ghost_name ≡ output.old.buffer.ghost_name }
 {
     output.make_room(rt, ROOM);
     let buffer = &mut *output.buffer;
