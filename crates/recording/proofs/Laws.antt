@@ -9,6 +9,7 @@ use lib.Dec.{ltb}
 use lib.ListN.{length, take, drop, length-drop, length-map}
 use lib.Seq.{length-take-le, take-append_seam, take-append-add}
 use Rattle.std.specs.Prelude.{Result, Ok, Err}
+use Rattle.std.proofs.Common.{take_all, append-nil}
 use Rattle.std.specs.Result.{result_unwrap_or}
 use Rattle.device.proofs.Tests.{if_both}
 use Rattle.output.specs.Waiting.{kept_of}
@@ -127,6 +128,27 @@ module _ (lent : List ℕ) where
   extended_fits : (n : ℕ) (words : List ℕ) → Fits (extended_of n words lent).outcome
   unfolding extended_of
   extended_fits n words = if_both Fits (all_pack words) (λ _. front_fits (piece_of n (slots_in words)).bytes) (λ _. omega arith)
+
+-- whatever the row: the whole rest of the buffer is lent
+module _
+    (n w : ℕ) (words before last : List ℕ) (r : Result Extended WriteError) {m : Extended} (u : m ≡ more_of n r)
+    (e : extending_in n r last ≡ extended_of n words (take (length before - w) (drop w before))) where
+  given : extending_in n r last ≡ extended_of n words (drop w before)
+  given = e ∙ ap (λ (rest : List ℕ). extended_of n words rest) (take_all (length before - w) (drop w before) (omega (arith, length-drop w before)))
+
+  pub more_length : m.length ≡ (extended_of n words (drop w before)).outcome.length
+  more_length = ap (λ (x : Extended). x.length) u ∙ (told n r last).0 ∙ ap (λ (x : Extending). x.outcome.length) given
+
+  pub more_bytes : (rest : List ℕ) → rest ≡ [] → take w before ++ (last ++ rest) ≡ take w before ++ (extended_of n words (drop w before)).outcome.bytes
+  more_bytes rest none = ap (λ (bytes : List ℕ). take w before ++ bytes) (rw none (append-nil last) ∙ (told n r last).1 ∙ ap (λ (x : Extending). x.outcome.bytes) given)
+
+  pub more_pending : m.pending ≡ (extended_of n words (drop w before)).pending
+  more_pending = ap (λ (x : Extended). x.pending) u ∙ (told n r last).2 ∙ ap (λ (x : Extending). x.pending) given
+
+-- what goes on waiting lies in the buffer
+pub kept_within : (waiting : ℕ) (needed room : ℕ) → kept_of waiting needed room ≤ room
+unfolding kept_of
+kept_within waiting needed room = if_both (λ (kept : ℕ). kept ≤ room) (ltb room (waiting + needed)) (λ _. omega arith) (λ e. omega (arith, ltb-false))
 
 pub no_longer : (r : Result Extended WriteError) (bytes : List ℕ) {m : Extended} (n : ℕ) (words given : List ℕ)
     → m ≡ more_of n r
