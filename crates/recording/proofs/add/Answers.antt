@@ -8,7 +8,7 @@ use Rattle.recording.proofs.Laws.{added_bytes, added_pending, more_length, more_
 use Rattle.recording.proofs.add.Goals as goal
 
 pub overflow_add-output : goal.overflow_add-output
-overflow_add-output g c = let e = no_longer c.extend.result _ _ _ _ c.unwrap_or-more.ensures c.extend.ensures in omega arith
+overflow_add-output g c = let e = no_longer c.extend.result _ _ _ _ _ c.unwrap_or-more.ensures c.extend.ensures in omega arith
 
 pub returns-clause-behind : goal.returns-clause-behind
 returns-clause-behind g c =
@@ -26,11 +26,11 @@ returns-clause-behind g c =
           let same : m.result ≡ c.make_room.new.self.waiting = omega (arith, kept_within held 24579 (length buffer), w, m.ensures) in
           let k : m.result ≡ kept_of held 24579 (length buffer) = same ∙ w in
           rw (← r.kept) k;
-      waiting = rw (← r.kept) (ap (λ k. m.result + k) (more_length a.pending m.result a.words.now buffer _ c.extend.result u e));
+      waiting = rw (← r.kept) (ap (λ k. m.result + k) (more_length a.pending _ m.result a.words.now buffer _ c.extend.result u e));
       bytes =
           let none = drop_all (length buffer - m.result) (drop m.result buffer) (omega (arith, length-drop m.result buffer)) in
-          rw (← r.kept) (more_bytes a.pending m.result a.words.now buffer _ c.extend.result u e _ none);
-      pending = rw (← r.kept) (more_pending a.pending m.result a.words.now buffer _ c.extend.result u e);
+          rw (← r.kept) (more_bytes a.pending _ m.result a.words.now buffer _ c.extend.result u e _ none);
+      pending = rw (← r.kept) (more_pending a.pending _ m.result a.words.now buffer _ c.extend.result u e u);
     }
 
 pub returns-clause-added : goal.returns-clause-added
