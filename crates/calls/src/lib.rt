@@ -129,6 +129,7 @@ fn unpacked(
     requires { output.old.waiting ≤ length output.old.buffer.now }
     ensures waiting { output.new.waiting ≤ length output.old.buffer.now }
     ensures len { length output.new.buffer.now ≡ length output.old.buffer.now }
+    ensures lent { output.new.buffer.ghost_name ≡ output.old.buffer.ghost_name }
 {
     for (&command, &report) in commands.iter().zip(reports).take(count) {
         output.say(rt, Answer::Packed(command, report).line());
@@ -140,6 +141,7 @@ fn beyond(rt: &(impl Print + Eprint), output: &mut Output, words: &[u64], count:
     requires { output.old.waiting ≤ length output.old.buffer.now }
     ensures waiting { output.new.waiting ≤ length output.old.buffer.now }
     ensures len { length output.new.buffer.now ≡ length output.old.buffer.now }
+    ensures lent { output.new.buffer.ghost_name ≡ output.old.buffer.ghost_name }
 {
     for &word in words.iter().skip(count) {
         if word != 0 {
@@ -159,6 +161,7 @@ pub fn tell(
 )
     ensures waiting { output.new.waiting ≤ length output.old.buffer.now }
     ensures len { length output.new.buffer.now ≡ length output.old.buffer.now }
+    ensures lent { output.new.buffer.ghost_name ≡ output.old.buffer.ghost_name }
 {
     output.say(rt, Answer::Slots(number, count).line());
     unpacked(rt, output, commands, reports, count);

@@ -7,7 +7,7 @@ ghost use Rattle.output.specs.Waiting.{Emptied, Roomy};
 use std::io;
 use text::Text;
 
-// Bytes on their way to standard output.
+// Bytes on their way to standard output. By `lent` in the contracts the buffer stays the one that was lent, so that its lender knows what stands in it.
 #[derive(Drop)]
 pub struct Output<'a> {
     pub buffer: &'a mut [u8],
@@ -34,7 +34,8 @@ pub fn fail(rt: &impl Eprint, what: &str, why: io::Error) -> bool
 
 impl<'a> Output<'a> {
     pub fn new(buffer: &'a mut [u8]) -> Output<'a>
-        ensures { (result.waiting ≡ 0) × (result.failed ≡ false) × (result.buffer.now ≡ buffer.old) }
+        ensures empty { (result.waiting ≡ 0) × (result.failed ≡ false) × (result.buffer.now ≡ buffer.old) }
+        ensures lent { result.buffer.ghost_name ≡ buffer.entry.ghost_name }
     {
         Output {
             buffer,
@@ -56,6 +57,7 @@ impl<'a> Output<'a> {
     pub fn flush(&mut self, rt: &(impl Print + Eprint))
         ensures emptied { Emptied self.old self.new }
         ensures kept { self.new.buffer.now ≡ self.old.buffer.now }
+        ensures lent { self.new.buffer.ghost_name ≡ self.old.buffer.ghost_name }
     {
         if self.failed {
             return;
@@ -69,6 +71,7 @@ impl<'a> Output<'a> {
     pub fn make_room(&mut self, rt: &(impl Print + Eprint), needed: usize)
         ensures roomy { Roomy self.old needed self.new }
         ensures kept { self.new.buffer.now ≡ self.old.buffer.now }
+        ensures lent { self.new.buffer.ghost_name ≡ self.old.buffer.ghost_name }
     {
         let room = self.buffer.len();
         if room < self.waiting || room - self.waiting < needed {
@@ -81,6 +84,7 @@ impl<'a> Output<'a> {
         requires { self.old.waiting ≤ length self.old.buffer.now }
         ensures waiting { (self.old.waiting ≤ self.new.waiting) × (self.new.waiting ≤ length self.old.buffer.now) }
         ensures len { length self.new.buffer.now ≡ length self.old.buffer.now }
+        ensures lent { self.new.buffer.ghost_name ≡ self.old.buffer.ghost_name }
         ensures failed { self.new.failed ≡ self.old.failed }
     {
         let from = self.waiting;
@@ -93,6 +97,7 @@ impl<'a> Output<'a> {
     pub fn say(&mut self, rt: &(impl Print + Eprint), text: Text)
         ensures waiting { self.new.waiting ≤ length self.old.buffer.now }
         ensures len { length self.new.buffer.now ≡ length self.old.buffer.now }
+        ensures lent { self.new.buffer.ghost_name ≡ self.old.buffer.ghost_name }
     {
         self.make_room(rt, 64);
         self.waiting = self.waiting.min(self.buffer.len());

@@ -118,7 +118,10 @@ impl Run {
     }
 
     // After a call that has one line of output.
-    fn answered(&mut self, rt: &(impl Print + Eprint), played: Played, output: &mut Output) {
+    fn answered(&mut self, rt: &(impl Print + Eprint), played: Played, output: &mut Output)
+        ensures len { length output.new.buffer.now ≡ length output.old.buffer.now }
+        ensures lent { output.new.buffer.ghost_name ≡ output.old.buffer.ghost_name }
+    {
         self.machine = played.machine;
         match self.mode {
             Mode::Lines => output.say(rt, played.text),
@@ -126,7 +129,10 @@ impl Run {
         }
     }
 
-    fn wrong(&mut self, rt: &(impl Print + Eprint), output: &mut Output) {
+    fn wrong(&mut self, rt: &(impl Print + Eprint), output: &mut Output)
+        ensures len { length output.new.buffer.now ≡ length output.old.buffer.now }
+        ensures lent { output.new.buffer.ghost_name ≡ output.old.buffer.ghost_name }
+    {
         match self.mode {
             Mode::Lines => self.answered(rt, calls::wrong(self.machine, self.number), output),
             Mode::Tape => tell_no_call(rt, self.number),
@@ -159,7 +165,10 @@ impl Run {
         refr: u32,
         tim: u32,
         output: &mut Output,
-    ) {
+    )
+        ensures len { length output.new.buffer.now ≡ length output.old.buffer.now }
+        ensures lent { output.new.buffer.ghost_name ≡ output.old.buffer.ghost_name }
+    {
         match self.mode {
             Mode::Lines => self.answered(rt, calls::configure(cfg, row, refr, tim), output),
             Mode::Tape => self.begin(rt, Machine::configure(cfg, row, refr, tim)),
@@ -167,12 +176,18 @@ impl Run {
     }
 
     // Goes on with the tape by the slots of a row of words.
-    fn taped(&mut self, rt: &(impl Print + Eprint), words: &[u64], output: &mut Output) {
+    fn taped(&mut self, rt: &(impl Print + Eprint), words: &[u64], output: &mut Output)
+        ensures len { length output.new.buffer.now ≡ length output.old.buffer.now }
+        ensures lent { output.new.buffer.ghost_name ≡ output.old.buffer.ghost_name }
+    {
         self.pending = recording::add(rt, output, self.pending, words);
     }
 
     // A slot, for a tape. A refused one is none.
-    fn taped_slot(&mut self, rt: &(impl Print + Eprint), carried: u16, output: &mut Output) {
+    fn taped_slot(&mut self, rt: &(impl Print + Eprint), carried: u16, output: &mut Output)
+        ensures len { length output.new.buffer.now ≡ length output.old.buffer.now }
+        ensures lent { output.new.buffer.ghost_name ≡ output.old.buffer.ghost_name }
+    {
         let slot = self.machine.slot(carried);
         if slot.answer.is_err() {
             return;
@@ -181,7 +196,10 @@ impl Run {
         self.taped(rt, &[pack_command(slot.command)], output);
     }
 
-    fn slot(&mut self, rt: &(impl Print + Eprint), carried: u16, output: &mut Output) {
+    fn slot(&mut self, rt: &(impl Print + Eprint), carried: u16, output: &mut Output)
+        ensures len { length output.new.buffer.now ≡ length output.old.buffer.now }
+        ensures lent { output.new.buffer.ghost_name ≡ output.old.buffer.ghost_name }
+    {
         match self.mode {
             Mode::Lines => self.answered(rt, calls::slot(self.machine, carried), output),
             Mode::Tape => self.taped_slot(rt, carried, output),
@@ -196,7 +214,10 @@ impl Run {
         given: &[u32; NUMBERS],
         bus: &mut [u16],
         output: &mut Output,
-    ) {
+    )
+        ensures len { length output.new.buffer.now ≡ length output.old.buffer.now }
+        ensures lent { output.new.buffer.ghost_name ≡ output.old.buffer.ghost_name }
+    {
         let waiting = self.halfwords.min(bus.len());
         if bus.len() - waiting < count {
             self.wrong(rt, output);
@@ -214,7 +235,10 @@ impl Run {
         commands: &[u64],
         reports: &[u64],
         output: &mut Output,
-    ) {
+    )
+        ensures len { length output.new.buffer.now ≡ length output.old.buffer.now }
+        ensures lent { output.new.buffer.ghost_name ≡ output.old.buffer.ghost_name }
+    {
         match self.mode {
             Mode::Lines => {
                 let count = answer.unwrap_or(0);
@@ -235,7 +259,10 @@ impl Run {
         commands: &mut [u64],
         reports: &mut [u64],
         output: &mut Output,
-    ) {
+    )
+        ensures len { length output.new.buffer.now ≡ length output.old.buffer.now }
+        ensures lent { output.new.buffer.ghost_name ≡ output.old.buffer.ghost_name }
+    {
         let ran = self.machine.slots(bus, commands, reports);
         self.machine = ran.machine;
         self.halfwords = 0;
@@ -250,7 +277,10 @@ impl Run {
         reports: u32,
         bus: &[u16],
         output: &mut Output,
-    ) {
+    )
+        ensures len { length output.new.buffer.now ≡ length output.old.buffer.now }
+        ensures lent { output.new.buffer.ghost_name ≡ output.old.buffer.ghost_name }
+    {
         let mut command_words = zeros();
         let mut report_words = zeros();
         let waiting = self.halfwords.min(bus.len());
@@ -273,7 +303,10 @@ impl Run {
         given: &[u32; NUMBERS],
         bus: &mut [u16],
         output: &mut Output,
-    ) {
+    )
+        ensures len { length output.new.buffer.now ≡ length output.old.buffer.now }
+        ensures lent { output.new.buffer.ghost_name ≡ output.old.buffer.ghost_name }
+    {
         let machine = self.machine;
         match call {
             Call::Nothing => {}
@@ -308,7 +341,9 @@ impl Run {
         bus: &mut [u16],
         output: &mut Output,
     )
-        ensures { (self.new.line ≡ no_line) × (self.new.number ≡ (self.old.number + 1) % 18446744073709551616) }
+        ensures next { (self.new.line ≡ no_line) × (self.new.number ≡ (self.old.number + 1) % 18446744073709551616) }
+        ensures len { length output.new.buffer.now ≡ length output.old.buffer.now }
+        ensures lent { output.new.buffer.ghost_name ≡ output.old.buffer.ghost_name }
     {
         let number = self.number.wrapping_add(1);
         self.line.end(given);
@@ -319,7 +354,9 @@ impl Run {
 
     // Nothing more is played: the tape gets its last record. Lines need nothing more.
     pub fn finished(&self, rt: &(impl Print + Eprint), output: &mut Output)
-        ensures { self.now.mode ≡ Mode.Lines → output.new ≡ output.old }
+        ensures lines { self.now.mode ≡ Mode.Lines → output.new ≡ output.old }
+        ensures len { length output.new.buffer.now ≡ length output.old.buffer.now }
+        ensures lent { output.new.buffer.ghost_name ≡ output.old.buffer.ghost_name }
     {
         match self.mode {
             Mode::Lines => {}

@@ -9,6 +9,7 @@ use lib.Dec.{ltb}
 use lib.ListN.{length, take, drop, length-drop, length-map}
 use lib.Seq.{length-take-le, take-append_seam, take-append-add}
 use Rattle.std.specs.Prelude.{Result, Ok, Err}
+use Rattle.std.proofs.Common.{take_all, append-nil}
 use Rattle.std.specs.Result.{result_unwrap_or}
 use Rattle.device.proofs.Tests.{if_both}
 use Rattle.output.specs.Waiting.{kept_of}
@@ -73,12 +74,14 @@ module _ (held : ℕ) (w : ℕ) (before : List ℕ) (room : 24579 ≤ length bef
 abbrev more_of : ℕ → Result Extended WriteError → Extended
 more_of n r = result_unwrap_or r (record { length = 0; pending = n })
 
-told : (n : ℕ) (r : Result Extended WriteError) (bytes : List ℕ)
-    → ((more_of n r).length ≡ (extending_in n r bytes).outcome.length)
-    × (bytes ≡ (extending_in n r bytes).outcome.bytes)
-    × ((more_of n r).pending ≡ (extending_in n r bytes).pending)
-told n (Ok m) bytes = (refl, refl, refl)
-told n (Err why) bytes = (refl, refl, refl)
+told : (n k : ℕ) (r : Result Extended WriteError) (bytes : List ℕ)
+    → ((more_of k r).length ≡ (extending_in n r bytes).outcome.length) × (bytes ≡ (extending_in n r bytes).outcome.bytes)
+told n k (Ok m) bytes = (refl, refl)
+told n k (Err why) bytes = (refl, refl)
+
+told_pending : (n : ℕ) (r : Result Extended WriteError) (bytes : List ℕ) → (more_of n r).pending ≡ (extending_in n r bytes).pending
+told_pending n (Ok m) bytes = refl
+told_pending n (Err why) bytes = refl
 
 told_end : (r : Result ℕ WriteError) (bytes : List ℕ) → (result_unwrap_or r 0 ≡ (outcome_in r bytes).length) × (bytes ≡ (outcome_in r bytes).bytes)
 told_end (Ok length) bytes = (refl, refl)
@@ -94,11 +97,11 @@ module _
 
   pub added_bytes : take (w + m.length) (take w before ++ (last ++ rest)) ≡ kept_in held before ++ (piece_of n (slots_in words)).bytes
   added_bytes =
-      let t = told n r last in
+      let t = told n n r last in
       rw (u, t.0 ∙ ap (λ (x : Extending). x.outcome.length) gives, t.1 ∙ ap (λ (x : Extending). x.outcome.bytes) gives) (put held w before l.room k _ _ rest)
 
   pub added_pending : m.pending ≡ (piece_of n (slots_in words)).pending
-  added_pending = ap (λ (x : Extended). x.pending) u ∙ (told n r last).2 ∙ ap (λ (x : Extending). x.pending) gives
+  added_pending = ap (λ (x : Extended). x.pending) u ∙ told_pending n r last ∙ ap (λ (x : Extending). x.pending) gives
 
 -- the record of the NOPs that wait at the end
 module _
@@ -128,11 +131,32 @@ module _ (lent : List ℕ) where
   unfolding extended_of
   extended_fits n words = if_both Fits (all_pack words) (λ _. front_fits (piece_of n (slots_in words)).bytes) (λ _. omega arith)
 
-pub no_longer : (r : Result Extended WriteError) (bytes : List ℕ) {m : Extended} (n : ℕ) (words given : List ℕ)
-    → m ≡ more_of n r
+-- whatever the row: the whole rest of the buffer is lent
+module _
+    (n k w : ℕ) (words before last : List ℕ) (r : Result Extended WriteError) {m : Extended} (u : m ≡ more_of k r)
+    (e : extending_in n r last ≡ extended_of n words (take (length before - w) (drop w before))) where
+  given : extending_in n r last ≡ extended_of n words (drop w before)
+  given = e ∙ ap (λ (rest : List ℕ). extended_of n words rest) (take_all (length before - w) (drop w before) (omega (arith, length-drop w before)))
+
+  pub more_length : m.length ≡ (extended_of n words (drop w before)).outcome.length
+  more_length = ap (λ (x : Extended). x.length) u ∙ (told n k r last).0 ∙ ap (λ (x : Extending). x.outcome.length) given
+
+  pub more_bytes : (rest : List ℕ) → rest ≡ [] → take w before ++ (last ++ rest) ≡ take w before ++ (extended_of n words (drop w before)).outcome.bytes
+  more_bytes rest none = ap (λ (bytes : List ℕ). take w before ++ bytes) (rw none (append-nil last) ∙ (told n k r last).1 ∙ ap (λ (x : Extending). x.outcome.bytes) given)
+
+  pub more_pending : m ≡ more_of n r → m.pending ≡ (extended_of n words (drop w before)).pending
+  more_pending v = ap (λ (x : Extended). x.pending) v ∙ told_pending n r last ∙ ap (λ (x : Extending). x.pending) given
+
+-- what goes on waiting lies in the buffer
+pub kept_within : (waiting : ℕ) (needed room : ℕ) → kept_of waiting needed room ≤ room
+unfolding kept_of
+kept_within waiting needed room = if_both (λ (kept : ℕ). kept ≤ room) (ltb room (waiting + needed)) (λ _. omega arith) (λ e. omega (arith, ltb-false))
+
+pub no_longer : (r : Result Extended WriteError) (bytes : List ℕ) {m : Extended} (n k : ℕ) (words given : List ℕ)
+    → m ≡ more_of k r
     → extending_in n r bytes ≡ extended_of n words given
     → m.length ≤ length given
-no_longer r bytes n words given u e = rw (u, (told n r bytes).0 ∙ ap (λ (x : Extending). x.outcome.length) e) (extended_fits given n words)
+no_longer r bytes n k words given u e = rw (u, (told n k r bytes).0 ∙ ap (λ (x : Extending). x.outcome.length) e) (extended_fits given n words)
 
 pub no_longer_end : (r : Result ℕ WriteError) (bytes : List ℕ) {m : ℕ} (n : ℕ) (words given : List ℕ)
     → m ≡ result_unwrap_or r 0

@@ -2,7 +2,7 @@
 #![tactic(auto)]
 
 ghost use Rattle.std.specs.Prelude.{◌≤◌, ◌≡◌, false, length};
-ghost use Rattle.recording.specs.Recording.{Lent, Added, Ended};
+ghost use Rattle.recording.specs.Recording.{Lent, Added, Behind, Ended};
 
 use output::Output;
 use tape_writer::{Extended, extend, finish};
@@ -13,7 +13,9 @@ const ROOM: usize = 24579;
 // Goes on with a tape by the slots of a row of words. `pending` NOPs at its end still wait for their record; the answer is how many wait then.
 pub fn add(rt: &(impl Print + Eprint), output: &mut Output, pending: u16, words: &[u64]) -> u16
     ensures added { Lent words.now output.old.buffer.now → output.new.failed ≡ false → Added output.old pending words.now output.new result }
+    ensures behind { Behind output.old pending words.now output.new result }
     ensures len { length output.new.buffer.now ≡ length output.old.buffer.now }
+    ensures lent { output.new.buffer.ghost_name ≡ output.old.buffer.ghost_name }
 {
     output.make_room(rt, ROOM);
     let buffer = &mut *output.buffer;
@@ -31,6 +33,7 @@ pub fn add(rt: &(impl Print + Eprint), output: &mut Output, pending: u16, words:
 pub fn end(rt: &(impl Print + Eprint), output: &mut Output, pending: u16)
     ensures ended { 24579 ≤ length output.old.buffer.now → output.new.failed ≡ false → Ended output.old pending output.new }
     ensures len { length output.new.buffer.now ≡ length output.old.buffer.now }
+    ensures lent { output.new.buffer.ghost_name ≡ output.old.buffer.ghost_name }
 {
     output.make_room(rt, ROOM);
     let buffer = &mut *output.buffer;

@@ -56,12 +56,13 @@ abbrev pub number_of : WriteError → ℕ
 number_of WriteError.NoRoom = 14
 number_of WriteError.NotACommand = 20
 
--- as the code has it: the bytes changed in place, and the rest in its answer, 0 for one that is no refusal
+-- as the code has it: the bytes changed in place, and the rest in its answer, 0 for one that is no refusal. A refusal is written out here: by
+-- `refused_of` the contracts would hold whatever that said.
 abbrev pub outcome_in : Result ℕ WriteError → List ℕ → Outcome
 outcome_in (Ok length) bytes = record { number = 0; length = length; bytes = bytes }
-outcome_in (Err why) bytes = refused_of (number_of why) bytes
+outcome_in (Err why) bytes = record { number = number_of why; length = 0; bytes = bytes }
 
 -- of a call that goes on with a tape, after so many NOPs that wait
 abbrev pub extending_in : ℕ → Result Extended WriteError → List ℕ → Extending
 extending_in n (Ok r) bytes = record { outcome = record { number = 0; length = r.length; bytes = bytes }; pending = r.pending }
-extending_in n (Err why) bytes = record { outcome = refused_of (number_of why) bytes; pending = n }
+extending_in n (Err why) bytes = record { outcome = record { number = number_of why; length = 0; bytes = bytes }; pending = n }

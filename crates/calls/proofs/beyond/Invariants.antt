@@ -1,7 +1,9 @@
--- The output keeps its length, and what waits stays within it.
+-- The output keeps its buffer and its length, and what waits stays within it.
 use Rattle.std.proofs.Common.{◌≤◌, ◌≡◌, length}
 use Rattle.calls.proofs.beyond.Given as goal
 
 abbrev pub invariant-loop-word : goal.invariant-loop-word
 invariant-loop-word g l =
-    (length l.output.buffer.now ≡ length l.initial.output.buffer.now) × (l.output.waiting ≤ length l.initial.output.buffer.now)
+    (length l.output.buffer.now ≡ length l.initial.output.buffer.now)
+    × (l.output.waiting ≤ length l.initial.output.buffer.now)
+    × (l.output.buffer.ghost_name ≡ l.initial.output.buffer.ghost_name)
