@@ -21,7 +21,7 @@ pub struct Stamps {
     pub ghost far: { clock < 2 ^ 63 },
 }
 
-// What follows is asked of stamps alone, or of a clock: any will do, whatever else there is. `Stamps` has the same for its own.
+// These take any stamps and any clock, and no `Stamps`, whose methods call them.
 
 // The slot in which the clock shows `clock`.
 pub fn slot(clock: u64) -> u64
