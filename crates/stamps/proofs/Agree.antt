@@ -2,7 +2,7 @@
 use Prim.Native.Nat.{ℕ, zero, suc, ◌+◌, ◌≤◌, ◌<◌}
 use mathlib.Core.Path.{◌≡◌, refl, ◌∙◌}
 use mathlib.Core.Bool.{Bool, true, false, cond, false≢true}
-use mathlib.Core.List.{List, [], ◌∷◌}
+use mathlib.Core.List.{List}
 use mathlib.Core.Option.{Option, none, some}
 use native.Mathlib.Omega.{arith}
 use lib.Dec.{leb, ltb}
@@ -13,21 +13,7 @@ use Rattle.config.specs.declared.Config.{Config}
 use Rattle.config.specs.Accepted.{Accepted}
 use Rattle.command.specs.declared.Command.{Command}
 use Rattle.command.specs.declared.Command.TheVariants.{Nop, Act, Read, Wrt, Pre, Deac, Refr, Mrs}
-use Rattle.device.specs.View.{
-  Distance,
-  refresh_cycle,
-  mode_register,
-  read_to_write,
-  any_precharge,
-  row_cycle,
-  row_precharge,
-  write_recovery,
-  slots_of,
-  marks_of,
-  starts,
-  row_of,
-  is_some,
-}
+use Rattle.device.specs.View.{Distance, mode_register, row_cycle, row_precharge, slots_of, marks_of, starts, row_of, is_some}
 use Rattle.device.specs.Rules.{requirements, legal_of}
 use Rattle.device.specs.History.{History, Log, last, kept_since, open_row, by_history, start_log, allowed, fed}
 use Rattle.device.proofs.Tests.{leb_both}
