@@ -4,14 +4,15 @@ use Rattle.refusal.specs.Refused.{number_of as words_number_of}
 use Rattle.tape.specs.Reading.{number_of as record_number_of}
 use Rattle.judge.specs.declared.IllegalSlot.{IllegalSlot}
 use Rattle.judge.specs.declared.JudgeError.{JudgeError}
-use Rattle.judge.specs.Judge.{Verdict, said_of, illegal_at}
+use Rattle.judge.specs.Judge.{Verdict}
 
 abbrev pub number_of : JudgeError → ℕ
 number_of (JudgeError.Configuration why) = words_number_of why
 number_of JudgeError.TooLong = 19
 number_of (JudgeError.Record why) = record_number_of why
 
+-- written out, and not by what `judge_of` is made of: so a contract ties that to the code
 abbrev pub verdict_in : Result (Option IllegalSlot) JudgeError → Verdict
-verdict_in (Ok None) = said_of 0
-verdict_in (Ok (Some x)) = illegal_at x.slot x.violation
-verdict_in (Err why) = said_of (number_of why)
+verdict_in (Ok None) = record { number = 0; slot = 0; rule = 0; bank = 0 }
+verdict_in (Ok (Some x)) = record { number = 0; slot = x.slot; rule = x.violation.rule; bank = x.violation.bank }
+verdict_in (Err why) = record { number = number_of why; slot = 0; rule = 0; bank = 0 }

@@ -2,7 +2,7 @@
 use Prim.Native.Nat.{ℕ, zero, suc, ◌+◌, ◌≤◌, ◌<◌}
 use mathlib.Core.Path.{◌≡◌, refl, ◌∙◌}
 use mathlib.Core.Bool.{Bool, true, false, cond, false≢true}
-use mathlib.Core.List.{List, [], ◌∷◌}
+use mathlib.Core.List.{List}
 use mathlib.Core.Option.{Option, none, some}
 use native.Mathlib.Omega.{arith}
 use lib.Dec.{leb, ltb}
@@ -13,21 +13,7 @@ use Rattle.config.specs.declared.Config.{Config}
 use Rattle.config.specs.Accepted.{Accepted}
 use Rattle.command.specs.declared.Command.{Command}
 use Rattle.command.specs.declared.Command.TheVariants.{Nop, Act, Read, Wrt, Pre, Deac, Refr, Mrs}
-use Rattle.device.specs.View.{
-  Distance,
-  refresh_cycle,
-  mode_register,
-  read_to_write,
-  any_precharge,
-  row_cycle,
-  row_precharge,
-  write_recovery,
-  slots_of,
-  marks_of,
-  starts,
-  row_of,
-  is_some,
-}
+use Rattle.device.specs.View.{Distance, mode_register, row_cycle, row_precharge, slots_of, marks_of, starts, row_of, is_some}
 use Rattle.device.specs.Rules.{requirements, legal_of}
 use Rattle.device.specs.History.{History, Log, last, kept_since, open_row, by_history, start_log, allowed, fed}
 use Rattle.device.proofs.Tests.{leb_both}
@@ -36,6 +22,7 @@ use Rattle.device.proofs.Follows.{Follows, sent_follows, starts_nop}
 use Rattle.ages.specs.Ages.{place_of}
 use Rattle.ages.proofs.Slot.{each_placed, reached}
 use Rattle.stamps.specs.Stamps.{clock_of, no_stamps, open_at, any_row, by_stamps, stamped_of}
+use Rattle.stamps.proofs.Noted.{noted_earlier}
 
 -- the stamp of a last command
 abbrev stamp_of : Option ℕ → ℕ
@@ -149,65 +136,12 @@ agrees_slot {l} {m} {g} {h} a k s w = record {
 nop_stamped : (now : ℕ) (l : List ℕ) → ((i : ℕ) → get_or l i 0 < now) → Stamped Nop now l l
 nop_stamped now l h = record { placed = λ d i. rw (starts_nop d); within = λ i. let z = h i in omega arith }
 
--- a list whose numbers are all below another
-abbrev Below : ℕ → List ℕ → Type 0
-Below m [] = Unit {0}
-Below m (x ∷ xs) = (x < m) × Below m xs
-
-below_at : (m : ℕ) (xs : List ℕ) → Below (suc m) xs → (i : ℕ) → get_or xs i 0 < suc m
-below_at m [] h i = omega arith
-below_at m (x ∷ xs) h zero = h.0
-below_at m (x ∷ xs) h (suc i) = below_at m xs h.1 i
-
-cond_below : (f : Bool) (now x : ℕ) → x < now → cond f now x < suc now
-cond_below true now x h = omega arith
-cond_below false now x h = omega arith
-
 command_stamped : (k : Command) (now : ℕ) (l : List ℕ) → ((i : ℕ) → get_or l i 0 < now) → Stamped k now l (stamped_of now k l)
 unfolding stamped_of
 command_stamped k now l h = record {
   placed = each_placed (λ f i. cond f now (get_or l i 0)) k;
-  within = below_at now (stamped_of now k l) (
-    at 0 (row_cycle 0),
-    (
-      at 1 (row_cycle 1),
-      (
-        at 2 (row_cycle 2),
-        (
-          at 3 (row_cycle 3),
-          (
-            at 4 (row_precharge 0),
-            (
-              at 5 (row_precharge 1),
-              (
-                at 6 (row_precharge 2),
-                (
-                  at 7 (row_precharge 3),
-                  (
-                    at 8 refresh_cycle,
-                    (
-                      at 9 mode_register,
-                      (
-                        at 10 any_precharge,
-                        (
-                          at 11 read_to_write,
-                          (at 12 (write_recovery 0), (at 13 (write_recovery 1), (at 14 (write_recovery 2), (at 15 (write_recovery 3), tt)))),
-                        ),
-                      ),
-                    ),
-                  ),
-                ),
-              ),
-            ),
-          ),
-        ),
-      ),
-    ),
-  );
+  within = λ i. let z = noted_earlier k now l (stamped_of now k l) refl (λ n. let y = h n in omega arith) i in omega arith;
 }
-  where
-    at : (i : ℕ) (d : Distance) → cond (starts d k) now (get_or l i 0) < suc now
-    at i d = cond_below (starts d k) now (get_or l i 0) (h i)
 
 -- a legal command is sent on both sides
 pub agrees_sent : (c : Config) {l : List ℕ} {g : Log} → Agrees l g → (k : Command) → allowed c g k ≡ true → Agrees (stamped_of (clock_of g.now) k l) (fed c g k)

@@ -13,18 +13,19 @@ pub record Taken : Type 0 where
   pub last : List ℕ
   pub clock : ℕ
 
+-- as the contracts put what the code leaves
 abbrev pub taken_as : Option Cursor → List ℕ → ℕ → Taken
 taken_as p l now = record { cursor = p; last = l; clock = now }
 
 -- by what the reader finds at the cursor
 unfoldable pub taken_by : Config → List ℕ → ℕ → Cursor → Step → Answer → Taken
-taken_by c l now p s end = taken_as None l now
+taken_by c l now p s end = record { cursor = None; last = l; clock = now }
 taken_by c l now p s (command k) =
     cond (legal_of c (by_stamps c l now) k)
-    (taken_as (Some (record { at = s.at; before = s.before })) (stamped_of now k l) (now + 1))
-    (taken_as None l now)
-taken_by c l now p s (run n) = taken_as (Some (record { at = s.at; before = s.before })) l (now + n)
-taken_by c l now p s (refusal n place) = taken_as None l now
+    (record { cursor = Some (record { at = s.at; before = s.before }); last = stamped_of now k l; clock = now + 1 })
+    (record { cursor = None; last = l; clock = now })
+taken_by c l now p s (run n) = record { cursor = Some (record { at = s.at; before = s.before }); last = l; clock = now + n }
+taken_by c l now p s (refusal n place) = record { cursor = None; last = l; clock = now }
 
 abbrev pub taken_of : Config → List ℕ → ℕ → Cursor → Step → Taken
 taken_of c l now p s = taken_by c l now p s s.answer

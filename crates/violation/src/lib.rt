@@ -203,7 +203,7 @@ fn named(rule: u8, bank: u8) -> u8
 }
 
 // The first rule that a command breaks, and its bank; none for a legal command.
-#[tactic(auto, using(crate::proofs::Steps::banks_end))]
+#[tactic(auto, using(crate::proofs::Grid::value_is, crate::proofs::Grid::none_is, crate::proofs::Steps::value_broken, crate::proofs::Steps::none_broken, crate::proofs::Steps::banks_end, crate::proofs::Steps::rules_end))]
 pub fn first(c: Config, past: &Stamps, command: Command) -> Option<Violation>
     requires { Accepted c }
     ensures value { violation_in result ≡ violation_of (requirements c (by_stamps c past.now.last past.now.clock) command) }

@@ -1,0 +1,6 @@
+-- The stamps after the command are the same whatever its bank and column.
+use Rattle.stamps.proofs.Noted.{noted_earlier}
+use Rattle.stamps.proofs.Stamps.note_read.Goals as goal
+
+pub invariant_of-self-clause-earlier : goal.invariant_of-self-clause-earlier
+invariant_of-self-clause-earlier c = let e = c.note_read.ensures (record { 0 = 0 }) (record { 0 = 0 }) in search (e, noted_earlier)
