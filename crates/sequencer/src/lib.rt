@@ -216,6 +216,9 @@ impl Machine {
         }
     }
 
+    // Every call tests the record first, in its own body and on a past of its own. As one method on the machine lent, the test keeps the machine in memory, and a slot
+    // with a reading takes twice as long (docs/PERFORMANCE.md).
+
     // Hands in a request of either kind; a halfword given with a read is ignored.
     pub fn request(self, kind: Kind, address: u32, halfword: u16) -> Answered<u32>
         ensures { requested_in result ≡ request_of self kind address halfword }
@@ -325,16 +328,17 @@ impl Machine {
     pub fn backlog(self) -> Result<u8, Refusal>
         ensures { reading_in result ≡ backlog_of self }
     {
+        let counters = self.counters;
         let past = self.past;
         numbers::check_record(
             self.configured,
             config::accepted(self.config),
             self.config,
             &past,
-            self.counters,
+            counters,
             self.control.action,
             self.queue.count,
         )?;
-        Ok(self.counters.backlog)
+        Ok(counters.backlog)
     }
 }
