@@ -1,7 +1,7 @@
 // Owns the reading of a number of a script (REPLAY.md), byte by byte.
 #![tactic(auto)]
 
-ghost use Rattle.std.specs.Prelude.{◌≡◌, ◌≤◌, ◌*◌};
+ghost use Rattle.std.specs.Prelude.{◌≡◌, ◌≤◌, ◌*◌, IfSome};
 ghost use Rattle.number.specs.Number.{
   digit_in,
   digit_of,
@@ -33,7 +33,8 @@ pub enum Number {
 // The value of a digit, if the byte is one.
 #[tactic(auto, unfolding(crate::specs::Number::digit_of))]
 fn digit(byte: u8) -> Option<u32>
-    ensures { digit_in result ≡ digit_of byte }
+    ensures value { digit_in result ≡ digit_of byte }
+    ensures small { IfSome result (λ d. d ≤ 15) }
 {
     match byte {
         b'0'..=b'9' => Some((byte - b'0') as u32),
