@@ -6,3 +6,4 @@ pub mod Sound
 pub mod Batch
 pub mod TwoCalls
 pub mod Whole
+pub mod Parts
